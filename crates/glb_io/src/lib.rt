@@ -1,0 +1,16 @@
+//! Bytes in and out, with a count of the faults of each stream.
+#![tactic(auto)]
+
+mod failed;
+mod memory;
+mod sink;
+mod source;
+mod stream;
+#[cfg(test)]
+mod tests;
+
+pub use failed::Failed;
+pub use memory::{CalmSource, MemSink, MemSource, NullSink};
+pub use sink::Sink;
+pub use source::Source;
+pub use stream::{StdSink, StdSource, SteadyRead, SteadyWrite};
