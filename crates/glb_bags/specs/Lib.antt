@@ -1,0 +1,3 @@
+pub mod ListBag
+pub use Rattle.glb_laws.specs.Bag
+pub use Rattle.glb_laws.specs.Expansion

@@ -1,0 +1,4 @@
+pub mod Forests
+pub mod Orders
+pub mod Sizes
+pub mod Folds
