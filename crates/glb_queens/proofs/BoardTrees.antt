@@ -1,0 +1,343 @@
+-- The nodes of the tree of boards: each safe list once.
+use Rattle.std.proofs.Common.{◌≡◌, ◌≢◌, ℕ, zero, suc, ◌+◌, ◌*◌, ◌<◌, ◌≤◌, Bool, true, not, ◌&&◌, ◌==◌, nat_lt, List, [], ◌∷◌, ◌++◌, length, get_or, map, inl, inr, refl, sym, ap, subst, ◌∙◌, arith, append_assoc, append-nil}
+use Rattle.std.specs.Int.{bit_at}
+use Rattle.std.specs.List.{All, AllPairs, Contains, filter, flat_map, range_with_len}
+use Rattle.std.proofs.lemmas.Bool.{cases_lt, cases_Bool, cond-true, cond-false, lt-ltb, le-ltb, eqb-true, ne_eqb, eq-eqb, not_from_false, cases_eq}
+use Rattle.std.proofs.lemmas.List.{length_push, length-append, length-map, append_cancel_left, get_or-map, get_or_at, get_or_default}
+use Rattle.std.proofs.lemmas.List.Elements.{All-nil, All-cons, All-head, All-tail, All-append, All-push, All-filter, All-weaker, filter_passes, Contains-append_left, Contains-append_right}
+use Rattle.std.proofs.lemmas.List.Kept.{AllPairs-cons, AllPairs-filter}
+use Rattle.std.proofs.Math.Nat.{suc-mul, mul-le-mul_right}
+use Rattle.glb_laws.specs.Tree.{tree, forest, IsSmall, nodes}
+use Rattle.glb_queens.specs.Boards.{IsSafe, IsBoard, IsEachBoardOnce, is_free, boards_below, arrangements}
+use Rattle.glb_queens.specs.Masks.{columns_in}
+use Rattle.glb_queens.proofs.Columns.{columns_below}
+use Rattle.glb_queens.proofs.Safety.{safe_none, safe_push, safe_front, free_last, apart_where_free}
+
+-- lists in general
+All-flat_map : {X Y : Type 0} (P : Y → Type 0) (f : X → List Y) (xs : List X) → All (λ x. All P (f x)) xs → All P (flat_map f xs)
+All-flat_map P f [] h = All-nil P
+All-flat_map P f (x ∷ xs) h =
+    All-append P (f x) (flat_map f xs) (All-head (λ x. All P (f x)) x xs h) (All-flat_map P f xs (All-tail (λ x. All P (f x)) x xs h))
+
+Contains-head : {X : Type 0} (x : X) (xs : List X) → Contains (x ∷ xs) x
+Contains-head x xs = (0, omega arith, refl)
+
+Contains-tail : {X : Type 0} (y x : X) (xs : List X) → Contains xs x → Contains (y ∷ xs) x
+Contains-tail y x xs c = (suc c.0, omega (arith, c.1), c.2)
+
+Contains-flat_map : {X Y : Type 0} (f : X → List Y) (xs : List X) (x : X) (y : Y) → Contains xs x → Contains (f x) y → Contains (flat_map f xs) y
+Contains-flat_map f [] x y c d = absurd (omega (arith, c.1))
+Contains-flat_map f (a ∷ xs) x y (zero, lt, is) d = Contains-append_left (f a) (flat_map f xs) y (subst (λ z. Contains (f z) y) (sym is) d)
+Contains-flat_map f (a ∷ xs) x y (suc k, lt, is) d = Contains-append_right (f a) (flat_map f xs) y (Contains-flat_map f xs x y (k, omega arith, is) d)
+
+Contains-map : {X Y : Type 0} (f : X → Y) (xs : List X) (x : X) → Contains xs x → Contains (map f xs) (f x)
+Contains-map f xs x c = (c.0, omega (arith, length-map xs f, c.1), get_or-map f xs c.0 x (f x) c.1 ∙ ap f c.2)
+
+Contains-filter : {X : Type 0} (p : X → Bool) (xs : List X) (x : X) → p x ≡ true → Contains xs x → Contains (filter p xs) x
+Contains-filter p [] x h c = absurd (omega (arith, c.1))
+Contains-filter p (a ∷ xs) x h (zero, lt, is) = subst (λ l. Contains l x) (sym (cond-true (p a) _ _ (ap p is ∙ h))) (subst (λ z. Contains (z ∷ filter p xs) x) (sym is) (Contains-head x (filter p xs)))
+Contains-filter p (a ∷ xs) x h (suc k, lt, is) =
+    let rest = Contains-filter p xs x h (k, omega arith, is) in
+    elim (cases_Bool (p a)) [
+      | inl t ↦ subst (λ l. Contains l x) (sym (cond-true (p a) _ _ t)) (Contains-tail a x (filter p xs) rest)
+      | inr t ↦ subst (λ l. Contains l x) (sym (cond-false (p a) _ _ t)) rest
+    ]
+
+Contains-range : (a n k : ℕ) → a ≤ k → k < a + n → Contains (range_with_len a n) k
+Contains-range a zero k low high = absurd (omega arith)
+Contains-range a (suc n) k low high =
+    elim (cases_eq a k) [
+      | inl e ↦ subst (λ z. Contains (z ∷ range_with_len (a + 1) n) k) (sym e) (Contains-head k (range_with_len (a + 1) n))
+      | inr ne ↦ Contains-tail a k (range_with_len (a + 1) n) (Contains-range (a + 1) n k (omega (arith, ne)) (omega arith))
+    ]
+
+All-range : (P : ℕ → Type 0) (a n : ℕ) → ((k : ℕ) → a ≤ k → k < a + n → P k) → All P (range_with_len a n)
+All-range P a zero h = All-nil P
+All-range P a (suc n) h = All-cons P a (range_with_len (a + 1) n) (h a (omega arith) (omega arith)) (All-range P (a + 1) n (λ k low high. h k (omega arith) (omega arith)))
+
+AllPairs-range : (a n : ℕ) → AllPairs (λ x y. x ≢ y) (range_with_len a n)
+AllPairs-range a zero = λ i j d lt within. absurd (omega arith)
+AllPairs-range a (suc n) = AllPairs-cons (λ x y. x ≢ y) a (range_with_len (a + 1) n) (All-range (λ k. a ≢ k) (a + 1) n (λ k low high e. absurd (omega (arith, e)))) (AllPairs-range (a + 1) n)
+
+AllPairs-head : {X : Type 0} (R : X → X → Type 0) (x : X) (xs : List X) → AllPairs R (x ∷ xs) → All (R x) xs
+AllPairs-head R x xs h k d lt = h 0 (suc k) d (omega arith) (omega arith)
+
+AllPairs-tail : {X : Type 0} (R : X → X → Type 0) (x : X) (xs : List X) → AllPairs R (x ∷ xs) → AllPairs R xs
+AllPairs-tail R x xs h i j d lt within = h (suc i) (suc j) d (omega arith) (omega arith)
+
+AllPairs-append : {X : Type 0} (R : X → X → Type 0) (xs ys : List X) → AllPairs R xs → AllPairs R ys → All (λ x. All (R x) ys) xs → AllPairs R (xs ++ ys)
+AllPairs-append R [] ys p q c = q
+AllPairs-append R (x ∷ xs) ys p q c =
+    AllPairs-cons R x (xs ++ ys) (All-append (R x) xs ys (AllPairs-head R x xs p) (All-head (λ x. All (R x) ys) x xs c))
+    (AllPairs-append R xs ys (AllPairs-tail R x xs p) q (All-tail (λ x. All (R x) ys) x xs c))
+
+-- different numbers below n are at most n
+abbrev others : ℕ → List ℕ → List ℕ
+others n xs = filter (λ x. not (x == n)) xs
+
+all_kept : (n : ℕ) (xs : List ℕ) → All (λ x. n ≢ x) xs → length xs ≤ length (others n xs)
+all_kept n [] h = omega arith
+all_kept n (x ∷ xs) h =
+    let rest = all_kept n xs (All-tail (λ x. n ≢ x) x xs h) in
+    let passes : not (x == n) ≡ true = not_from_false (x == n) (ne_eqb x n (λ e. All-head (λ x. n ≢ x) x xs h (sym e))) in
+    omega (arith, ap length (cond-true (not (x == n)) (x ∷ others n xs) (others n xs) passes))
+
+one_less : (n : ℕ) (xs : List ℕ) → AllPairs (λ x y. x ≢ y) xs → length xs ≤ length (others n xs) + 1
+one_less n [] h = omega arith
+one_less n (x ∷ xs) h =
+    elim (cases_Bool (x == n)) [
+      | inl same ↦
+          let rest = all_kept n xs (subst (λ z. All (λ y. z ≢ y) xs) (eqb-true x n same) (AllPairs-head (λ x y. x ≢ y) x xs h)) in
+          omega (arith, ap length (cond-false (not (x == n)) (x ∷ others n xs) (others n xs) (ap not same)))
+      | inr other ↦
+          let rest = one_less n xs (AllPairs-tail (λ x y. x ≢ y) x xs h) in
+          omega (arith, ap length (cond-true (not (x == n)) (x ∷ others n xs) (others n xs) (ap not other)))
+    ]
+
+below_others : (n : ℕ) (xs : List ℕ) → All (λ x. x < suc n) xs → All (λ x. x < n) (others n xs)
+below_others n xs h k d lt =
+    let low : get_or (others n xs) k d < suc n = All-filter (λ x. not (x == n)) (λ x. x < suc n) xs h k d lt in
+    let passes : not (get_or (others n xs) k d == n) ≡ true = filter_passes (λ x. not (x == n)) xs k d lt in
+    elim (cases_eq (get_or (others n xs) k d) n) [
+      | inl e ↦ absurd (let t : not (n == n) ≡ true = ap (λ z. not (z == n)) (sym e) ∙ passes in cc (ap not (eq-eqb n n refl), t))
+      | inr ne ↦ omega (arith, ne)
+    ]
+
+different_few : (n : ℕ) (xs : List ℕ) → AllPairs (λ x y. x ≢ y) xs → All (λ x. x < n) xs → length xs ≤ n
+different_few zero [] p h = omega arith
+different_few zero (x ∷ xs) p h = absurd (omega (arith, All-head (λ x. x < 0) x xs h))
+different_few (suc n) xs p h =
+    omega (arith, one_less n xs p, different_few n (others n xs) (AllPairs-filter (λ x y. x ≢ y) (λ x. not (x == n)) xs p) (below_others n xs h))
+
+-- the columns after `columns`
+abbrev pub next : List ℕ → ℕ → List ℕ
+next columns c = columns ++ c ∷ []
+
+free_list : ℕ → List ℕ → List ℕ
+free_list n columns = filter (is_free columns) (range_with_len 0 n)
+
+below_more : (n : ℕ) (columns : List ℕ) → length columns < n → boards_below n columns ≡ map (next columns) (free_list n columns)
+unfolding boards_below free_list
+below_more n columns lt = cond-true (nat_lt (length columns) n) _ _ (lt-ltb (length columns) n lt)
+
+-- they are read off the mask of the free columns
+pub below_mask : (n : ℕ) (columns : List ℕ) (mask : ℕ) → length columns < n → n ≤ 16 → ((c : ℕ) → (bit_at mask c == 1) ≡ (nat_lt c n && is_free columns c))
+    → boards_below n columns ≡ map (next columns) (columns_in mask)
+unfolding free_list
+below_mask n columns mask lt le says = below_more n columns lt ∙ ap (map (next columns)) (sym (columns_below (is_free columns) mask n le says))
+
+pub below_none : (n : ℕ) (columns : List ℕ) → n ≤ length columns → boards_below n columns ≡ []
+unfolding boards_below
+below_none n columns ge = cond-false (nat_lt (length columns) n) _ _ (le-ltb (length columns) n ge)
+
+record IsChoice (n : ℕ) (columns : List ℕ) (c : ℕ) : Type 0 where
+  below : c < n
+  free : is_free columns c ≡ true
+
+free_choices : (n : ℕ) (columns : List ℕ) → All (IsChoice n columns) (free_list n columns)
+unfolding free_list
+free_choices n columns k d lt = record {
+  below = All-filter (is_free columns) (λ c. c < n) (range_with_len 0 n) (All-range (λ c. c < n) 0 n (λ j low high. omega arith)) k d lt;
+  free = filter_passes (is_free columns) (range_with_len 0 n) k d lt;
+}
+
+choice_contained : (n : ℕ) (columns : List ℕ) (c : ℕ) → c < n → is_free columns c ≡ true → Contains (free_list n columns) c
+unfolding free_list
+choice_contained n columns c lt free = Contains-filter (is_free columns) (range_with_len 0 n) c free (Contains-range 0 n c (omega arith) (omega arith))
+
+choices_differ : (n : ℕ) (columns : List ℕ) → AllPairs (λ x y. x ≢ y) (free_list n columns)
+unfolding free_list
+choices_differ n columns = AllPairs-filter (λ x y. x ≢ y) (is_free columns) (range_with_len 0 n) (AllPairs-range 0 n)
+
+board_push : (n : ℕ) (columns : List ℕ) (c : ℕ) → length columns < n → IsBoard n columns → IsChoice n columns c → IsBoard n (next columns c)
+board_push n columns c lt board choice = record {
+  safe = safe_push columns c board.safe choice.free;
+  below = All-push (λ x. x < n) columns c board.below choice.below;
+  rows = omega (arith, length_push columns c);
+}
+
+-- how many columns are free
+place_of : (columns : List ℕ) (i : ℕ) → i < length columns → (d : ℕ) → get_or columns i d ≡ get_or columns i 0
+place_of columns i lt d = get_or_default columns i d 0 lt
+
+safe_differ : (columns : List ℕ) → IsSafe columns → AllPairs (λ x y. x ≢ y) columns
+safe_differ columns safe i j d lt within =
+    subst (λ a. a ≢ get_or columns j d) (sym (place_of columns i (omega arith) d)) (subst (λ b. get_or columns i 0 ≢ b) (sym (place_of columns j within d)) (safe i j lt within).0)
+
+free_differ : (n : ℕ) (columns : List ℕ) → All (λ x. All (λ y. x ≢ y) (free_list n columns)) columns
+free_differ n columns i d lt j e within =
+    let choice = free_choices n columns j e within in
+    subst (λ a. a ≢ get_or (free_list n columns) j e) (sym (place_of columns i lt d)) (apart_where_free columns (get_or (free_list n columns) j e) choice.free i lt).0
+
+few_free : (n : ℕ) (columns : List ℕ) → IsBoard n columns → length columns + length (free_list n columns) ≤ n
+few_free n columns board =
+    let all = different_few n (columns ++ free_list n columns) (AllPairs-append (λ x y. x ≢ y) columns (free_list n columns) (safe_differ columns board.safe) (choices_differ n columns) (free_differ n columns))
+    (All-append (λ x. x < n) columns (free_list n columns) board.below (All-weaker (IsChoice n columns) (λ x. x < n) (λ x h. h.below) (free_list n columns) (free_choices n columns)))
+    in
+    omega (arith, length-append columns (free_list n columns))
+
+-- the tree below a board
+module _ (n : ℕ) where
+  below : List ℕ → ℕ → List (List ℕ)
+  below columns depth = tree (boards_below n) columns depth
+
+  abbrev level : List ℕ → List ℕ → ℕ → List (List ℕ)
+  level columns choices depth = flat_map (λ b. below b depth) (map (next columns) choices)
+
+  below_zero : (columns : List ℕ) → below columns zero ≡ []
+  unfolding below tree
+  below_zero columns = refl
+
+  below_suc : (columns : List ℕ) (depth : ℕ) → length columns < n → below columns (suc depth) ≡ columns ∷ level columns (free_list n columns) depth
+  unfolding below tree
+  below_suc columns depth lt = ap (λ l. columns ∷ flat_map (λ b. tree (boards_below n) b depth) l) (below_more n columns lt)
+
+  below_full : (columns : List ℕ) (depth : ℕ) → n ≤ length columns → below columns (suc depth) ≡ columns ∷ []
+  unfolding below tree
+  below_full columns depth ge = ap (λ l. columns ∷ flat_map (λ b. tree (boards_below n) b depth) l) (below_none n columns ge)
+
+  -- each begins with the columns of the root
+  record IsUnder (columns board : List ℕ) : Type 0 where
+    more : List ℕ
+    is : board ≡ columns ++ more
+
+  under_root : (columns : List ℕ) → IsUnder columns columns
+  under_root columns = record { more = []; is = sym (append-nil columns) }
+
+  under_next : (columns : List ℕ) (c : ℕ) (board : List ℕ) → IsUnder (next columns c) board → IsUnder columns board
+  under_next columns c board u = record { more = c ∷ u.more; is = u.is ∙ append_assoc columns (c ∷ []) u.more }
+
+  level_all : (P : List ℕ → Type 0) (columns choices : List ℕ) (depth : ℕ) → ((c : ℕ) → IsChoice n columns c → All P (below (next columns c) depth)) → All (IsChoice n columns) choices → All P (level columns choices depth)
+  level_all P columns [] depth each all = All-nil P
+  level_all P columns (c ∷ choices) depth each all =
+      All-append P (below (next columns c) depth) (level columns choices depth) (each c (All-head (IsChoice n columns) c choices all)) (level_all P columns choices depth each (All-tail (IsChoice n columns) c choices all))
+
+  under : (depth : ℕ) (columns : List ℕ) → All (IsUnder columns) (below columns depth)
+  under zero columns = subst (All (IsUnder columns)) (sym (below_zero columns)) (All-nil (IsUnder columns))
+  under (suc depth) columns =
+      elim (cases_lt (length columns) n) [
+        | inl lt ↦
+            subst (All (IsUnder columns)) (sym (below_suc columns depth lt))
+            (All-cons (IsUnder columns) columns (level columns (free_list n columns) depth) (under_root columns)
+            (level_all (IsUnder columns) columns (free_list n columns) depth (λ c _. All-weaker (IsUnder (next columns c)) (IsUnder columns) (under_next columns c) (below (next columns c) depth) (under depth (next columns c))) (free_choices n columns)))
+        | inr ge ↦
+            subst (All (IsUnder columns)) (sym (below_full columns depth ge)) (All-cons (IsUnder columns) columns [] (under_root columns) (All-nil (IsUnder columns)))
+      ]
+
+  sound : (depth : ℕ) (columns : List ℕ) → IsBoard n columns → All (IsBoard n) (below columns depth)
+  sound zero columns board = subst (All (IsBoard n)) (sym (below_zero columns)) (All-nil (IsBoard n))
+  sound (suc depth) columns board =
+      elim (cases_lt (length columns) n) [
+        | inl lt ↦
+            subst (All (IsBoard n)) (sym (below_suc columns depth lt))
+            (All-cons (IsBoard n) columns (level columns (free_list n columns) depth) board
+            (level_all (IsBoard n) columns (free_list n columns) depth (λ c choice. sound depth (next columns c) (board_push n columns c lt board choice)) (free_choices n columns)))
+        | inr ge ↦
+            subst (All (IsBoard n)) (sym (below_full columns depth ge)) (All-cons (IsBoard n) columns [] board (All-nil (IsBoard n)))
+      ]
+
+  first_in : (columns : List ℕ) (depth : ℕ) → Contains (below columns (suc depth)) columns
+  first_in columns depth =
+      elim (cases_lt (length columns) n) [
+        | inl lt ↦ subst (λ l. Contains l columns) (sym (below_suc columns depth lt)) (Contains-head columns (level columns (free_list n columns) depth))
+        | inr ge ↦ subst (λ l. Contains l columns) (sym (below_full columns depth ge)) (Contains-head columns [])
+      ]
+
+  complete : (depth : ℕ) (columns more : List ℕ) → IsBoard n (columns ++ more) → length more < depth → Contains (below columns depth) (columns ++ more)
+  complete zero columns more board deep = absurd (omega arith)
+  complete (suc depth) columns [] board deep = subst (Contains (below columns (suc depth))) (sym (append-nil columns)) (first_in columns depth)
+  complete (suc depth) columns (c ∷ more) board deep =
+      let e : next columns c ++ more ≡ columns ++ c ∷ more = append_assoc columns (c ∷ []) more in
+      let board' = subst (IsBoard n) (sym e) board in
+      let size = length-append columns (c ∷ more) in
+      let lt : length columns < n = omega (arith, board.rows) in
+      let free = free_last columns c (safe_front (next columns c) more board'.safe) in
+      let small : c < n = subst (λ v. v < n) (get_or_at columns c more 0 (length columns) refl) (board.below (length columns) 0 (omega arith)) in
+      let inside = Contains-flat_map (λ b. below b depth) (map (next columns) (free_list n columns)) (next columns c) (columns ++ c ∷ more) (Contains-map (next columns) (free_list n columns) c (choice_contained n columns c small free))
+      (subst (Contains (below (next columns c) depth)) e (complete depth (next columns c) more board' (omega arith)))
+      in
+      subst (λ l. Contains l (columns ++ c ∷ more)) (sym (below_suc columns depth lt)) (Contains-tail columns (columns ++ c ∷ more) (level columns (free_list n columns) depth) inside)
+
+  -- boards under different columns differ
+  apart_next : (columns : List ℕ) (c : ℕ) (board : List ℕ) → IsUnder (next columns c) board → (d : ℕ) → c ≢ d → (other : List ℕ) → IsUnder (next columns d) other → board ≢ other
+  apart_next columns c board u d ne other v e =
+      let same : columns ++ c ∷ u.more ≡ columns ++ d ∷ v.more = sym (append_assoc columns (c ∷ []) u.more) ∙ sym u.is ∙ e ∙ v.is ∙ append_assoc columns (d ∷ []) v.more in
+      let rest : c ∷ u.more ≡ d ∷ v.more = append_cancel_left columns (c ∷ u.more) (d ∷ v.more) same in
+      ne (cc rest)
+
+  apart_level : (columns choices : List ℕ) (depth : ℕ) (c : ℕ) (board : List ℕ) → IsUnder (next columns c) board → All (λ d. c ≢ d) choices → All (λ other. board ≢ other) (level columns choices depth)
+  apart_level columns [] depth c board u ne = All-nil (λ other. board ≢ other)
+  apart_level columns (d ∷ choices) depth c board u ne =
+      All-append (λ other. board ≢ other) (below (next columns d) depth) (level columns choices depth)
+      (All-weaker (IsUnder (next columns d)) (λ other. board ≢ other) (λ other v. apart_next columns c board u d (All-head (λ d. c ≢ d) d choices ne) other v) (below (next columns d) depth) (under depth (next columns d)))
+      (apart_level columns choices depth c board u (All-tail (λ d. c ≢ d) d choices ne))
+
+  once_level : (columns choices : List ℕ) (depth : ℕ) → ((c : ℕ) → AllPairs (λ a b. a ≢ b) (below (next columns c) depth)) → AllPairs (λ x y. x ≢ y) choices → AllPairs (λ a b. a ≢ b) (level columns choices depth)
+  once_level columns [] depth each differ = λ i j d lt within. absurd (omega arith)
+  once_level columns (c ∷ choices) depth each differ =
+      AllPairs-append (λ a b. a ≢ b) (below (next columns c) depth) (level columns choices depth) (each c) (once_level columns choices depth each (AllPairs-tail (λ x y. x ≢ y) c choices differ))
+      (All-weaker (IsUnder (next columns c)) (λ a. All (λ b. a ≢ b) (level columns choices depth)) (λ board u. apart_level columns choices depth c board u (AllPairs-head (λ x y. x ≢ y) c choices differ)) (below (next columns c) depth) (under depth (next columns c)))
+
+  longer : (columns : List ℕ) (c : ℕ) (board : List ℕ) → IsUnder (next columns c) board → columns ≢ board
+  longer columns c board u e = absurd (omega (arith, ap length e, ap length u.is, length-append (next columns c) u.more, length_push columns c))
+
+  longer_level : (columns choices : List ℕ) (depth : ℕ) → All (λ board. columns ≢ board) (level columns choices depth)
+  longer_level columns [] depth = All-nil (λ board. columns ≢ board)
+  longer_level columns (c ∷ choices) depth =
+      All-append (λ board. columns ≢ board) (below (next columns c) depth) (level columns choices depth)
+      (All-weaker (IsUnder (next columns c)) (λ board. columns ≢ board) (longer columns c) (below (next columns c) depth) (under depth (next columns c))) (longer_level columns choices depth)
+
+  once : (depth : ℕ) (columns : List ℕ) → AllPairs (λ a b. a ≢ b) (below columns depth)
+  once zero columns = subst (AllPairs (λ a b. a ≢ b)) (sym (below_zero columns)) (λ i j d lt within. absurd (omega arith))
+  once (suc depth) columns =
+      elim (cases_lt (length columns) n) [
+        | inl lt ↦
+            subst (AllPairs (λ a b. a ≢ b)) (sym (below_suc columns depth lt))
+            (AllPairs-cons (λ a b. a ≢ b) columns (level columns (free_list n columns) depth) (longer_level columns (free_list n columns) depth)
+            (once_level columns (free_list n columns) depth (λ c. once depth (next columns c)) (choices_differ n columns)))
+        | inr ge ↦
+            subst (AllPairs (λ a b. a ≢ b)) (sym (below_full columns depth ge)) (λ i j d lt within. absurd (omega arith))
+      ]
+
+  -- the tree is small
+  level_size : (columns choices : List ℕ) (depth most : ℕ) → ((c : ℕ) → IsChoice n columns c → length (below (next columns c) depth) ≤ most) → All (IsChoice n columns) choices → length (level columns choices depth) ≤ length choices * most
+  level_size columns [] depth most each all = omega arith
+  level_size columns (c ∷ choices) depth most each all =
+      let first = each c (All-head (IsChoice n columns) c choices all) in
+      let rest = level_size columns choices depth most each (All-tail (IsChoice n columns) c choices all) in
+      let size = length-append (below (next columns c) depth) (level columns choices depth) in
+      omega (arith, suc-mul (length choices) most)
+
+  size : (depth : ℕ) (columns : List ℕ) (free : ℕ) → IsBoard n columns → length columns + free ≡ n → length (below columns depth) ≤ arrangements free
+  unfolding arrangements
+  size zero columns free board e = omega (arith, ap length (below_zero columns))
+  size (suc depth) columns zero board e = omega (arith, ap length (below_full columns depth (omega arith)))
+  size (suc depth) columns (suc free) board e =
+      let lt : length columns < n = omega arith in
+      let few : length (free_list n columns) ≤ suc free = omega (arith, few_free n columns board) in
+      let all = level_size columns (free_list n columns) depth (arrangements free) (λ c choice. size depth (next columns c) free (board_push n columns c lt board choice) (omega (arith, length_push columns c))) (free_choices n columns) in
+      let product : length (free_list n columns) * arrangements free ≤ suc free * arrangements free = mul-le-mul_right (arrangements free) few in
+      omega (arith, ap length (below_suc columns depth lt))
+
+  -- the empty board
+  board_none : IsBoard n []
+  board_none = record { safe = safe_none; below = All-nil (λ x. x < n); rows = omega arith }
+
+  nodes_are : (most : ℕ) → nodes (boards_below n) ([] ∷ []) most ≡ below [] (suc most)
+  unfolding below forest
+  nodes_are most = append-nil (tree (boards_below n) [] (suc most))
+
+  pub each_board_once : (most : ℕ) → n ≤ most → IsEachBoardOnce n (nodes (boards_below n) ([] ∷ []) most)
+  each_board_once most enough =
+      subst (IsEachBoardOnce n) (sym (nodes_are most)) (record {
+        sound = sound (suc most) [] board_none;
+        complete = λ columns board. complete (suc most) [] columns board (omega (arith, board.rows));
+        once = once (suc most) [];
+      })
+
+  -- no depth has more boards than lists of different columns
+  pub few_boards : (most : ℕ) → length (nodes (boards_below n) ([] ∷ []) most) ≤ arrangements n
+  few_boards most = omega (arith, ap length (nodes_are most), size (suc most) [] n board_none (omega arith))
+
+  pub boards_small : IsSmall (boards_below n) ([] ∷ []) (arrangements n)
+  boards_small = few_boards (arrangements n)

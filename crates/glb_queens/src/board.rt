@@ -1,0 +1,93 @@
+//! A board with a queen in each of its first rows. Beside the columns it keeps three masks, one bit a
+//! column: those that have a queen, and those of the next row that queens attack along a diagonal.
+ghost use Rattle.std.specs.Prelude.{◌≡◌, ℕ, ◌+◌, ◌<◌, ◌==◌, ◌&&◌, true, List, [], ◌∷◌, ◌++◌, length, nat_lt};
+ghost use Rattle.std.specs.Int.{bit_at};
+ghost use Rattle.glb_queens.specs.Boards.{IsSafe, is_free};
+
+use std::marker::Model;
+
+/// Queens of which none attacks another, by the column of the queen of each row.
+#[derive(Clone, Copy)]
+pub struct Board {
+    columns: [u8; 16],
+    rows: u32,
+    taken: u32,
+    rising: u32,
+    falling: u32,
+}
+
+impl Model for Board {
+    ghost use Rattle.std.specs.Prelude.{ℕ, List, take};
+
+    ghost Value = { List ℕ };
+
+    ghost use Rattle.glb_queens.specs.Masks.{IsKept, fields_of, same_fields};
+
+    ghost view = { λ b. take b.rows b.columns };
+
+    ghost invariant = { IsKept };
+
+    ghost inverse = { fields_of };
+
+    ghost inverse_ok = { same_fields };
+}
+
+impl Board {
+    /// A board without queens.
+    pub(crate) fn empty() -> Board
+        ensures { result ≡ [] }
+    {
+        Board {
+            columns: [0; 16],
+            rows: 0,
+            taken: 0,
+            rising: 0,
+            falling: 0,
+        }
+    }
+
+    /// The column of the queen of each row.
+    pub fn columns(&self) -> &[u8]
+        ensures columns { result.now ≡ self.now }
+        ensures safe { IsSafe self.now }
+    {
+        &self.columns[..self.rows as usize]
+    }
+
+    #[inline(always)]
+    pub(crate) fn rows(&self) -> u32
+        ensures { result ≡ length self.now }
+    {
+        self.rows
+    }
+
+    /// The columns of the next row, below `n`, that no queen attacks, one bit a column.
+    #[inline(always)]
+    pub(crate) fn free_columns(&self, n: u32) -> u32
+        requires { n < 17 }
+        ensures { (column : ℕ)
+            → (bit_at result column == 1) ≡ (nat_lt column n && is_free self.now column) }
+    {
+        !(self.taken | self.rising | self.falling) & ((1u32 << n) - 1)
+    }
+
+    /// The board with a further queen, in the next row.
+    #[inline(always)]
+    pub(crate) fn with_queen(&self, column: u32) -> Board
+        requires rows { length self.now < 16 }
+        requires column { column < 16 }
+        requires free { is_free self.now column ≡ true }
+        ensures { result ≡ self.now ++ column ∷ [] }
+    {
+        let queen = 1u32 << column;
+        let mut columns = self.columns;
+        columns[self.rows as usize] = column as u8;
+        Board {
+            columns,
+            rows: self.rows + 1,
+            taken: self.taken | queen,
+            rising: (self.rising | queen) << 1,
+            falling: (self.falling | queen) >> 1,
+        }
+    }
+}
