@@ -1,0 +1,2 @@
+pub mod BalanceFacts
+pub mod TextFacts

@@ -1,0 +1,3 @@
+pub mod Counter
+pub mod Balances
+pub mod Text
