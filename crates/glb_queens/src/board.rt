@@ -1,10 +1,11 @@
 //! A board with a queen in each of its first rows. Beside the columns it keeps three masks, one bit a
 //! column: those that have a queen, and those of the next row that queens attack along a diagonal.
-ghost use Rattle.std.specs.Prelude.{◌≡◌, ℕ, ◌+◌, ◌<◌, ◌==◌, ◌&&◌, true, List, [], ◌∷◌, ◌++◌, length, nat_lt};
+ghost use Rattle.std.specs.Prelude.{◌≡◌, ℕ, ◌+◌, ◌<◌, ◌==◌, ◌&&◌, true, List, [], ◌∷◌, ◌++◌, length, nat_lt, slice_set};
 ghost use Rattle.std.specs.Int.{bit_at};
 ghost use Rattle.glb_queens.specs.Boards.{IsSafe, is_free};
 
 use std::marker::Model;
+use std::simd::prelude::*;
 
 /// Queens of which none attacks another, by the column of the queen of each row.
 #[derive(Clone, Copy)]
@@ -80,14 +81,25 @@ impl Board {
         ensures { result ≡ self.now ++ column ∷ [] }
     {
         let queen = 1u32 << column;
-        let mut columns = self.columns;
-        columns[self.rows as usize] = column as u8;
         Board {
-            columns,
+            columns: with_column(self.columns, self.rows, column),
             rows: self.rows + 1,
             taken: self.taken | queen,
             rising: (self.rising | queen) << 1,
             falling: (self.falling | queen) >> 1,
         }
     }
+}
+
+// The byte is put in within a register: a load of all 16 after a store of one would wait for it.
+#[inline(always)]
+fn with_column(columns: [u8; 16], row: u32, column: u32) -> [u8; 16]
+    requires row { row < 16 }
+    requires column { column < 16 }
+    ensures { result ≡ slice_set columns row column }
+{
+    let rows = u8x16::from_array([0, 1, 2, 3, 4, 5, 6, 7, 8, 9, 10, 11, 12, 13, 14, 15]);
+    let here = rows.simd_eq(u8x16::splat(row as u8));
+    here.select(u8x16::splat(column as u8), u8x16::from_array(columns))
+        .to_array()
 }

@@ -63,6 +63,7 @@ fn queens_of_few_rows_have_the_known_numbers(rt: HostRuntime) -> Result<(), Fail
         (5, 54, 10),
         (6, 153, 4),
         (8, 2057, 92),
+        (10, 35539, 724),
     ];
     for (n, items, placements) in rows {
         if 1 <= n && n <= 16 {
