@@ -1,0 +1,9 @@
+pub mod RowFacts
+pub mod PairFacts
+pub mod SearchFacts
+pub mod WorthFacts
+pub mod DistanceLaws
+pub mod TextFacts
+pub mod LineFacts
+pub mod ReadFacts
+pub mod LawFacts

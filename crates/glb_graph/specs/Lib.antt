@@ -1,0 +1,11 @@
+pub mod Rows
+pub mod Walks
+pub mod Distances
+pub mod Tables
+pub mod Spots
+pub mod GraphText
+pub mod Reading
+pub use Rattle.glb_laws.specs.Bounded
+pub use Rattle.glb_laws.specs.Pair
+pub use Rattle.glb_laws.specs.Tree
+pub use Rattle.glb_laws.specs.Expansion
