@@ -1,0 +1,2 @@
+//! Worked cases.
+mod decisions;
