@@ -1,0 +1,5 @@
+pub mod Rules
+pub mod Words
+pub mod Forms
+pub mod Commands
+pub mod Settings
