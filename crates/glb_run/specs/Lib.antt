@@ -1,0 +1,14 @@
+pub mod Codes
+pub mod Orders
+pub mod FaultText
+pub mod Reports
+pub mod Runs
+pub mod Jobs
+pub mod Ends
+pub mod Stops
+pub use Rattle.glb_io.specs.Bytes
+pub use Rattle.glb_io.specs.Faults
+pub use Rattle.glb_words.specs.Rules
+pub use Rattle.glb_words.specs.Words
+pub use Rattle.glb_words.specs.Forms
+pub use Rattle.glb_words.specs.Settings

@@ -1,0 +1,60 @@
+-- What a report tells of the run of a job's tree.
+use Rattle.std.specs.Prelude.{◌≡◌, ℕ, true, List, [], ◌∷◌, ◌++◌, Bool}
+use Rattle.glb_tree.specs.Runs.{IsOutcome, IsTooMany, HasCause}
+use Rattle.glb_tree.specs.declared.run.Outcome.{Outcome}
+use Rattle.glb_tree.specs.declared.run.RunFault.{RunFault}
+use Rattle.glb_stats.specs.Balances.{IsBalanced}
+use Rattle.glb_stats.specs.declared.counters.Counters.{Counters}
+use Rattle.glb_stats.specs.declared.report.Report.{Report}
+use Rattle.glb_words.specs.Rules.{Text}
+use Rattle.glb_words.specs.declared.settings.Driver.{Driver}
+use Rattle.glb_words.specs.declared.settings.Driver.TheVariants as driver
+use Rattle.glb_run.specs.declared.order.Order.{Order}
+use Rattle.glb_run.specs.Reports.{counters_text}
+
+-- the counters of the one place of a run in one bag: its items, and that it slept at the end
+abbrev pub lone_place : ℕ → Counters
+lone_place items = record {
+  items = items;
+  asks = 0;
+  shrugs = 0;
+  denied = 0;
+  given = 0;
+  got = 0;
+  line_asks = 0;
+  line_given = 0;
+  line_got = 0;
+  sent_units = 0;
+  got_units = 0;
+  sleeps = 1;
+  wakes = 0;
+}
+
+-- the counters of the places, by the driver: they balance
+abbrev pub AreCounters : Driver → ℕ → List Counters → Type 0
+AreCounters driver.One items counters =
+    (counters ≡ lone_place items ∷ []) × IsBalanced counters items (0 ∷ []) (true ∷ [])
+
+-- the report has the number of the nodes of the root's tree, which is within the limit, the combination of their
+-- values, and the counters of the places
+pub record IsRun {X V : Type 0} (children : X → List X) (value : X → V)
+    (unit : V) (combine : V → V → V) (root : X) (order : Order)
+    (items : ℕ) (answer : V) (counters : List Counters) : Type 0 where
+  pub outcome : IsOutcome children value unit combine (root ∷ []) order.params.limit
+      (record { items = items; value = answer })
+  pub counted : AreCounters order.driver items counters
+
+-- the text tells of such a run
+pub record IsTreeReport {X V : Type 0} (children : X → List X) (value : X → V)
+    (unit : V) (combine : V → V → V) (root : X) (order : Order)
+    (lines : ℕ → V → Text) (text : Text) : Type 0 where
+  pub items : ℕ
+  pub answer : V
+  pub counters : List Counters
+  pub run : IsRun children value unit combine root order items answer counters
+  pub whole : text ≡ lines items answer ++ counters_text order.stats counters
+
+-- the root's tree has more nodes than the order's limit, and so many were expanded
+abbrev pub IsTooLarge : {X : Type 0} → (X → List X) → X → Order → ℕ → Type 0
+IsTooLarge children root order items =
+    IsTooMany children (root ∷ []) order.params.batch order.params.limit items
