@@ -62,7 +62,9 @@ fn queens_of_few_rows_have_the_known_numbers(rt: HostRuntime) -> Result<(), Fail
         (4, 17, 2),
         (5, 54, 10),
         (6, 153, 4),
+        (7, 552, 40),
         (8, 2057, 92),
+        (9, 8394, 352),
         (10, 35539, 724),
     ];
     for (n, items, placements) in rows {
