@@ -45,3 +45,12 @@ pub mod SeenFacts
 pub mod BalanceFacts
 pub mod CounterFacts
 pub mod ReportFacts
+pub mod SlotFacts
+pub mod SeatFacts
+pub mod ViewFacts
+pub mod ConditionFacts
+pub mod ItemFacts
+pub mod FitFacts
+pub mod FillFacts
+pub mod StartFacts
+pub mod TableSightFacts

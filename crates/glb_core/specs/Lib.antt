@@ -13,6 +13,11 @@ pub mod Draws
 pub mod Sight
 pub mod Decision
 pub mod Schedules
+pub mod Tables
+pub mod Standing
+pub mod TableEffects
+pub mod ItemEffects
+pub mod TableSights
 pub use Rattle.glb_laws.specs.Expansion
 pub use Rattle.glb_cube.specs.Lines
 pub use Rattle.glb_cube.specs.Ways

@@ -13,6 +13,7 @@ mod place_state;
 mod seen;
 #[cfg(test)]
 mod tests;
+mod world;
 
 pub use choice::victim;
 pub use decision::next;
@@ -22,3 +23,4 @@ pub use params::Params;
 pub use part::{Counts, EdgeName, MarkOn, Part};
 pub use place_state::PlaceState;
 pub use seen::{InEdge, OutEdge, Seen};
+pub use world::World;

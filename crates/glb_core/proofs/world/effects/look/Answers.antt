@@ -1,0 +1,5 @@
+use Rattle.std.proofs.Common.{refl}
+use Rattle.glb_core.proofs.world.effects.look.Goals as goal
+
+pub returns : goal.returns
+returns g c = rw (c.mark_of.ensures, c.face.ensures) refl
