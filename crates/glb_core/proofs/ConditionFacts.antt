@@ -1,13 +1,11 @@
 -- What the code tests of an event is the event's condition.
-use Rattle.std.proofs.Common.{◌≡◌, ◌≢◌, ℕ, ◌+◌, ◌*◌, ◌<◌, ◌≤◌, ◌⊎◌, inl, inr, List, [], ◌∷◌, length, get_or, refl, sym, ap, ◌∙◌, subst, ⊎_elim, arith, Bool, true, false, not, cond, ltb, ◌==◌, ◌&&◌, zero, suc}
+use Rattle.std.proofs.Common.{◌≡◌, ◌≢◌, ℕ, ◌<◌, ◌⊎◌, inl, inr, List, [], ◌∷◌, length, get_or, refl, sym, ap, ◌∙◌, subst, ⊎_elim, arith, Bool, true, not, cond, ltb, ◌==◌, suc}
 use Rattle.std.proofs.lemmas.Bool.{cases_eq, true≢false, lt-ltb, cond-true, cond-false, ne_eqb}
-use Rattle.std.specs.Bool.{Decides}
-use Rattle.glb_cube.specs.Lines.{has_number, outs_of, ins_of, IsLine}
+use Rattle.glb_cube.specs.Lines.{has_number, outs_of, ins_of}
 use Rattle.std.specs.Prelude.{All}
 use Rattle.glb_cube.proofs.GraphFacts.{in_of_line, line_of_in, outs_below, All-has_number}
-use Rattle.glb_core.specs.World.{Setup, World, WorldEdge, Idle, Asked, Refused, Loot, IsArmed, has_edge, has_line, mark_at}
-use Rattle.glb_core.specs.Steps.{IsEnabled, IsReady, IsWanted, AllClear}
-use Rattle.glb_core.specs.Setups.{setup_of}
+use Rattle.glb_core.specs.World.{Setup, World, Idle, Asked, Refused, Loot, IsArmed, has_edge, has_line}
+use Rattle.glb_core.specs.Steps.{IsEnabled, IsWanted, AllClear}
 use Rattle.glb_core.proofs.EdgeFacts.{eq_self, eq_other}
 use Rattle.glb_core.specs.declared.kinds.Kind.{Kind}
 use Rattle.glb_core.specs.declared.kinds.Kind.TheVariants as kind
@@ -19,12 +17,11 @@ use Rattle.glb_core.specs.declared.event.Event.TheVariants as event
 use Rattle.glb_core.specs.declared.world.seat.Seat.{Seat}
 use Rattle.glb_core.specs.declared.world.seat.Slot.{Slot}
 use Rattle.glb_core.specs.declared.world.seat.Slot.TheVariants as kept
-use Rattle.glb_core.specs.Tables.{WorldView, Shows, ShowsPart, slot_index, mark_index, edge_in}
+use Rattle.glb_core.specs.Tables.{WorldView, ShowsPart, slot_index, mark_index, edge_in}
 use Rattle.glb_core.specs.Standing.{StandsFor, Tells}
 use Rattle.glb_core.specs.TableEffects.{IsLooted, IsOpen, IsHeld, EachIn, AllOthers, WantedIn}
-use Rattle.glb_core.proofs.SlotFacts.{slot_below}
 use Rattle.glb_core.proofs.SeatFacts.{size_of}
-use Rattle.glb_core.proofs.ViewFacts.{places_are, Found, as_matched, part_found, edge_found}
+use Rattle.glb_core.proofs.ViewFacts.{places_are, Found, as_matched}
 
 -- both ways
 abbrev pub Iff : Type 0 → Type 0 → Type 0

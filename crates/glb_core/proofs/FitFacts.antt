@@ -1,18 +1,15 @@
 -- Bags that fit a program fit it after an event.
-use Rattle.std.proofs.Common.{◌≡◌, ◌≢◌, ℕ, ◌<◌, List, length, get_or, set, refl, sym, ap, ◌∙◌, subst, ⊎_elim, arith, length-set, get_or-set_same, get_or-set_other}
+use Rattle.std.proofs.Common.{◌≡◌, ◌≢◌, ℕ, ◌<◌, List, length, get_or, set, sym, ap, ◌∙◌, subst, ⊎_elim, arith, length-set, get_or-set_same, get_or-set_other}
 use Rattle.std.proofs.lemmas.Bool.{cases_eq}
-use Rattle.glb_core.specs.declared.kinds.Kind.{Kind}
 use Rattle.glb_core.specs.declared.kinds.Kind.TheVariants as kind
 use Rattle.glb_core.specs.declared.event.Event.{Event}
 use Rattle.glb_core.specs.declared.event.Event.TheVariants as event
 use Rattle.glb_core.specs.declared.world.seat.Seat.{Seat}
 use Rattle.glb_core.specs.declared.world.seat.Slot.{Slot}
-use Rattle.glb_core.specs.declared.world.seat.Slot.TheVariants as kept
 use Rattle.glb_core.specs.Tables.{WorldView}
-use Rattle.glb_core.specs.TableEffects.{seat_after, slot_after, slot_shrugged, asks}
+use Rattle.glb_core.specs.TableEffects.{seat_after, slot_after}
 use Rattle.glb_core.specs.ItemEffects.{AllFit, SlotFits}
 use Rattle.glb_core.proofs.ViewFacts.{changed}
-use Rattle.glb_core.proofs.SlotFacts.{get_or-any}
 
 module _ {B P : Type 0} (fits : B → P → Type 0) (p : P) where
   seat_set : (seats : List (Seat B)) (i : ℕ) (r : Seat B) → ((k : ℕ) (d : Seat B) → k < length seats → fits (get_or seats k d).bag p) → fits r.bag p

@@ -1,44 +1,40 @@
 -- The events that give, take and expand items, on the tables and in the world.
-use Rattle.std.proofs.Common.{◌≡◌, ◌≢◌, ℕ, suc, zero, ◌+◌, ◌-◌, ◌*◌, ◌^◌, ◌<◌, ◌≤◌, List, [], ◌∷◌, ◌++◌, length, get_or, set, refl, sym, ap, ◌∙◌, subst, inl, inr, ◌⊎◌, ⊎_elim, arith, length-set, get_or-set_same, get_or-set_other, min, replicate, IsPermutation, append_assoc}
+use Rattle.std.proofs.Common.{◌≡◌, ◌≢◌, ℕ, suc, zero, ◌+◌, ◌*◌, ◌<◌, ◌≤◌, List, [], ◌∷◌, ◌++◌, length, get_or, set, refl, sym, ap, ◌∙◌, subst, ⊎_elim, arith, length-set, get_or-set_same, get_or-set_other, IsPermutation, append_assoc}
 use Rattle.std.specs.Prelude.{Result, Ok, Err, OnErr, OnOk}
 use Rattle.std.proofs.lemmas.Bool.{cases_eq}
 use Rattle.std.proofs.lemmas.List.{get_or-replicate, length-replicate}
-use Rattle.std.proofs.lemmas.List.Sorted.{length_permutation, IsPermutation-trans, IsPermutation-sym, IsPermutation-append_comm, IsPermutation-append_left, IsPermutation-append_right, IsPermutation-refl}
+use Rattle.std.proofs.lemmas.List.Sorted.{IsPermutation-trans, IsPermutation-sym, IsPermutation-append_comm, IsPermutation-append_left, IsPermutation-append_right, IsPermutation-refl}
 use Rattle.glb_laws.specs.Monoid.{MonoidLaws}
-use Rattle.glb_laws.specs.Expansion.{Moves, Expands, combined}
+use Rattle.glb_laws.specs.Expansion.{Expands, combined}
 use Rattle.glb_laws.proofs.Expansions.{moves_before, moves_still, combined-append}
 use Rattle.glb_laws.proofs.Shuffles.{combined_permutation}
 use Rattle.glb_stats.specs.declared.counters.Counters.{Counters}
-use Rattle.glb_core.specs.World.{Setup, World, WorldEdge, Idle, Asked, Refused, Loot, mark_at, put_mark, state_of, units_of}
-use Rattle.glb_core.specs.Events.{actor, edge_of, name_of}
-use Rattle.glb_core.specs.Effects.{Change, touched, after, place_after, edge_after, of_kind, took, slept, rests, tries_after}
-use Rattle.glb_core.specs.Steps.{IsEnabled, Step, Choice}
-use Rattle.glb_core.specs.Lawful.{across, all_done}
-use Rattle.glb_core.specs.Schedules.{IsWhole}
+use Rattle.glb_core.specs.World.{Setup, World, state_of}
+use Rattle.glb_core.specs.Events.{edge_of, name_of}
+use Rattle.glb_core.specs.Effects.{touched, after, place_after, of_kind, took, slept, tries_after}
+use Rattle.glb_core.specs.Steps.{IsEnabled, Step}
+use Rattle.glb_core.specs.Lawful.{all_done}
 use Rattle.glb_core.proofs.Replaced.{replaced, becomes}
 use Rattle.glb_core.proofs.Frames.{across_change, name_cases}
 use Rattle.glb_core.proofs.JoinFacts.{join_split}
 use Rattle.glb_core.proofs.LawfulSteps.{step_keeps}
 use Rattle.glb_core.specs.declared.kinds.Kind.{Kind}
 use Rattle.glb_core.specs.declared.kinds.Kind.TheVariants as kind
-use Rattle.glb_core.specs.declared.kinds.Phase.{Phase}
-use Rattle.glb_core.specs.declared.kinds.Phase.TheVariants as phase
 use Rattle.glb_core.specs.declared.kinds.Mark.TheVariants as mark
 use Rattle.glb_core.specs.declared.part.Counts.{Counts}
 use Rattle.glb_core.specs.declared.part.Part.{Part}
-use Rattle.glb_core.specs.declared.event.Event.{Event}
 use Rattle.glb_core.specs.declared.event.Event.TheVariants as event
 use Rattle.glb_core.specs.declared.world.seat.Seat.{Seat}
 use Rattle.glb_core.specs.declared.world.seat.Slot.{Slot}
 use Rattle.glb_core.specs.declared.world.seat.Slot.TheVariants as kept
 use Rattle.glb_core.specs.Counters.{counters_of}
-use Rattle.glb_core.specs.Tables.{WorldView, Shows, ShowsPart, capped, capped_wide, mark_index, slot_index, edge_in}
-use Rattle.glb_core.specs.Standing.{StandsFor, LeadsFrom, HasFold, expanded}
-use Rattle.glb_core.specs.TableEffects.{NamesBelow, slot_named}
+use Rattle.glb_core.specs.Tables.{WorldView, ShowsPart, capped, capped_wide, mark_index, slot_index, edge_in}
+use Rattle.glb_core.specs.Standing.{StandsFor, LeadsFrom}
+use Rattle.glb_core.specs.TableEffects.{NamesBelow}
 use Rattle.glb_core.specs.ItemEffects.{GivesPart, TakesPart, AfterBatch, count_given, count_got, units_in}
 use Rattle.glb_core.proofs.SlotFacts.{mark_below, slot_below, slot_apart}
-use Rattle.glb_core.proofs.SeatFacts.{marks_put, size_of}
-use Rattle.glb_core.proofs.ViewFacts.{seat_shown, slot_shown, shown, stepped, changed, places_are, in_range, whole_of}
+use Rattle.glb_core.proofs.SeatFacts.{marks_put}
+use Rattle.glb_core.proofs.ViewFacts.{seat_shown, slot_shown, shown, stepped, changed, places_are, in_range}
 
 -- one more, below the last value or at it
 more : (a n k : ℕ) → a ≡ capped n → capped (a + k) ≡ capped (n + k)

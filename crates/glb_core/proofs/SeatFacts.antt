@@ -1,12 +1,11 @@
 -- What an event makes of a seat shows what it makes of the part.
-use Rattle.std.proofs.Common.{◌≡◌, ◌≢◌, ℕ, suc, zero, ◌+◌, ◌-◌, ◌*◌, ◌^◌, ◌<◌, ◌≤◌, List, [], ◌∷◌, length, get_or, set, refl, sym, ap, ◌∙◌, subst, inl, inr, ◌⊎◌, ⊎_elim, arith, length-set, get_or-set_same, get_or-set_other, min, true, cond, ltb}
+use Rattle.std.proofs.Common.{◌≡◌, ◌≢◌, ℕ, suc, zero, ◌+◌, ◌-◌, ◌*◌, ◌<◌, ◌≤◌, List, [], length, get_or, set, refl, sym, ap, ◌∙◌, subst, inl, inr, ⊎_elim, arith, length-set, get_or-set_same, get_or-set_other}
 use Rattle.std.proofs.lemmas.Bool.{cases_eq, lt-ltb, cond-true}
-use Rattle.std.specs.Vec.{with_item}
-use Rattle.std.proofs.lemmas.List.Sorted.{length_permutation, IsPermutation-trans, IsPermutation-sym, IsPermutation-append_comm, IsPermutation-append_left, IsPermutation-refl}
+use Rattle.std.proofs.lemmas.List.Sorted.{length_permutation}
 use Rattle.rand_pcg.specs.Lcg.{Lcg, next, advance, started, increment_of, state_after, next_state}
 use Rattle.rand_pcg.specs.Pcg.{multiplier_64, output_xsh_rr}
 use Rattle.glb_stats.specs.declared.counters.Counters.{Counters}
-use Rattle.glb_core.specs.World.{WorldEdge, Idle, Asked, Refused, Loot, mark_at, put_mark, state_of}
+use Rattle.glb_core.specs.World.{WorldEdge, mark_at, put_mark, state_of}
 use Rattle.glb_core.specs.Draws.{victim_of, word, drawn}
 use Rattle.glb_core.specs.Effects.{place_after, edge_after, after_shrug, looked, of_kind}
 use Rattle.glb_core.specs.Events.{actor}
@@ -16,7 +15,6 @@ use Rattle.glb_core.specs.declared.kinds.Kind.{Kind}
 use Rattle.glb_core.specs.declared.kinds.Kind.TheVariants as kind
 use Rattle.glb_core.specs.declared.kinds.Mark.{Mark}
 use Rattle.glb_core.specs.declared.kinds.Mark.TheVariants as mark
-use Rattle.glb_core.specs.declared.kinds.Edge.{Edge}
 use Rattle.glb_core.specs.declared.part.Counts.{Counts}
 use Rattle.glb_core.specs.declared.part.MarkOn.{MarkOn}
 use Rattle.glb_core.specs.declared.part.Part.{Part}
@@ -26,8 +24,8 @@ use Rattle.glb_core.specs.declared.world.seat.Seat.{Seat}
 use Rattle.glb_core.specs.declared.world.seat.Slot.{Slot}
 use Rattle.glb_core.specs.declared.world.seat.Slot.TheVariants as kept
 use Rattle.glb_core.specs.Counters.{counters_of}
-use Rattle.glb_core.specs.Tables.{ShowsPart, capped, capped_wide, mark_index, edge_in}
-use Rattle.glb_core.specs.TableEffects.{seat_after, slot_after, slot_shrugged, face_of, draws, asks, count_denied, count_shrug, IsSimple, NamesBelow, AsksAnother}
+use Rattle.glb_core.specs.Tables.{ShowsPart, capped, mark_index, edge_in}
+use Rattle.glb_core.specs.TableEffects.{seat_after, slot_after, slot_shrugged, face_of, asks, count_denied, count_shrug, IsSimple, NamesBelow, AsksAnother}
 use Rattle.glb_core.proofs.SlotFacts.{mark_apart, mark_below}
 
 -- the seat's bag has as many items as the part's

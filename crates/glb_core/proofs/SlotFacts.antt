@@ -1,5 +1,5 @@
 -- Each edge has a slot of its own.
-use Rattle.std.proofs.Common.{◌≡◌, ◌≢◌, ℕ, ◌+◌, ◌*◌, ◌<◌, ◌≤◌, ◌/◌, ◌%◌, refl, sym, ap, ◌∙◌, ⊎_elim, arith, List, [], ◌∷◌, length, get_or, zero, suc, subst}
+use Rattle.std.proofs.Common.{◌≡◌, ◌≢◌, ℕ, ◌+◌, ◌*◌, ◌<◌, ◌/◌, ◌%◌, refl, sym, ap, ◌∙◌, ⊎_elim, arith, List, [], ◌∷◌, length, get_or, zero, suc, subst}
 use Rattle.std.proofs.lemmas.Nat.{div-mul-add, mod-mul-add, mul-add-lt}
 use Rattle.glb_core.proofs.Frames.{Else}
 use Rattle.glb_core.specs.declared.kinds.Kind.{Kind}

@@ -1,24 +1,21 @@
 -- The tables that are made at the start show the start.
-use Rattle.std.proofs.Common.{◌≡◌, ◌≢◌, ℕ, suc, zero, ◌+◌, ◌-◌, ◌*◌, ◌<◌, ◌≤◌, List, [], ◌∷◌, ◌++◌, length, get_or, set, map, replicate, refl, sym, ap, ◌∙◌, subst, ◌⊎◌, inl, inr, ⊎_elim, arith, length-append, cond, Bool, true, false, min}
+use Rattle.std.proofs.Common.{◌≡◌, ◌≢◌, ℕ, suc, ◌+◌, ◌-◌, ◌*◌, ◌<◌, ◌≤◌, List, [], ◌∷◌, ◌++◌, length, get_or, map, replicate, refl, sym, ap, ◌∙◌, subst, ◌⊎◌, inl, inr, ⊎_elim, arith, length-append, Bool, true, false}
 use Rattle.std.specs.List.{range_with_len}
 use Rattle.std.proofs.lemmas.Bool.{cases_eq, cases_lt, le-ltb, cond-false}
-use Rattle.std.proofs.lemmas.List.{get_or_append_left, get_or-append-add, get_or_push, get_or-replicate, length-replicate, get_or-map, length-map}
+use Rattle.std.proofs.lemmas.List.{get_or_append_left, get_or-append-add, get_or_push, get_or-replicate, length-replicate, get_or-map}
 use Rattle.std.proofs.lemmas.List.FromFn.{get_or-map-range_with_len, length-map-range_with_len}
 use Rattle.std.proofs.lemmas.Nat.{mul-add-lt}
 use Rattle.rand_pcg.specs.Lcg.{Lcg, next, advance, started, increment_of}
 use Rattle.rand_pcg.specs.Pcg.{multiplier_64, output_xsh_rr}
 use Rattle.rand_pcg.proofs.LcgLemmas.{advance_zero}
-use Rattle.glb_cube.specs.Lines.{Cube, IsCube, has_number, outs_of}
-use Rattle.glb_core.specs.World.{Setup, World, WorldEdge, has_line}
+use Rattle.glb_cube.specs.Lines.{Cube, has_number, outs_of}
 use Rattle.glb_core.specs.Sums.{sum_to}
-use Rattle.glb_core.specs.Setups.{setup_of, has_items, bit, tries_of, IsWithinLimits}
-use Rattle.glb_core.specs.History.{start, first_line, first_phase, first_credit}
-use Rattle.glb_core.specs.Lawful.{across, all_done}
-use Rattle.glb_core.specs.Draws.{drawn, victim_of}
-use Rattle.glb_core.proofs.SumFacts.{sum_zero, sum_same}
+use Rattle.glb_core.specs.Setups.{has_items, bit, tries_of, IsWithinLimits}
+use Rattle.glb_core.specs.History.{start, first_line}
+use Rattle.glb_core.specs.Draws.{drawn}
+use Rattle.glb_core.proofs.SumFacts.{sum_zero}
 use Rattle.glb_core.proofs.SetupFacts.{proper, line_is}
 use Rattle.glb_core.proofs.LawfulStart.{start_lawful}
-use Rattle.glb_core.proofs.JoinFacts.{same}
 use Rattle.std.proofs.lemmas.List.Sorted.{IsPermutation-refl}
 use Rattle.glb_core.specs.declared.kinds.Kind.{Kind}
 use Rattle.glb_core.specs.declared.kinds.Kind.TheVariants as kind
@@ -27,8 +24,8 @@ use Rattle.glb_core.specs.declared.world.seat.Seat.{Seat}
 use Rattle.glb_core.specs.declared.world.seat.Slot.{Slot}
 use Rattle.glb_core.specs.declared.world.seat.Slot.TheVariants as kept
 use Rattle.glb_core.specs.declared.world.tables.Tables.{Tables}
-use Rattle.glb_core.specs.Tables.{WorldView, Shows, ShowsPart, FirstSlots, FirstSeats, FirstTables, FirstVictim, first_part, first_slot, slot_first, slot_index, kind_number, edge_in, seated, view_of}
-use Rattle.glb_core.specs.Standing.{StandsFor, first_setup, StartsAt, ListsFit}
+use Rattle.glb_core.specs.Tables.{WorldView, ShowsPart, FirstSlots, FirstSeats, FirstTables, FirstVictim, first_part, first_slot, slot_first, slot_index, kind_number, edge_in, seated, view_of}
+use Rattle.glb_core.specs.Standing.{first_setup, StartsAt, ListsFit}
 use Rattle.glb_core.specs.ItemEffects.{AllFit, SlotFits}
 use Rattle.glb_core.proofs.SeatFacts.{advance_next, word_is, drawn_is}
 use Rattle.glb_core.proofs.SlotFacts.{kind_below, element}

@@ -1,16 +1,14 @@
 -- What the tables tell of a place is what the place sees in the world.
-use Rattle.std.proofs.Common.{◌≡◌, ◌≢◌, ℕ, suc, zero, ◌+◌, ◌*◌, ◌<◌, ◌≤◌, List, [], ◌∷◌, ◌++◌, length, get_or, map, refl, sym, ap, ◌∙◌, subst, ⊎_elim, arith, cond, Bool, true, false, not, ◌==◌, length-append}
+use Rattle.std.proofs.Common.{◌≡◌, ℕ, suc, zero, ◌<◌, List, [], ◌∷◌, ◌++◌, length, get_or, map, refl, sym, ap, ◌∙◌, subst, arith, cond, Bool, true, false, not, ◌==◌}
 use Rattle.std.proofs.lemmas.List.{map-append, get_or-map, length-map}
-use Rattle.std.specs.List.{range_with_len}
 use Rattle.std.proofs.lemmas.List.FromFn.{get_or-map-range_with_len, length-map-range_with_len}
 use Rattle.glb_core.proofs.FillFacts.{map_pointwise}
-use Rattle.glb_cube.specs.Lines.{Cube, IsCube, has_number, outs_of}
+use Rattle.glb_cube.specs.Lines.{Cube, has_number, outs_of}
 use Rattle.glb_cube.proofs.GraphFacts.{outs_below, All-has_number}
-use Rattle.glb_core.specs.World.{Setup, World, WorldEdge, has_edge, has_line, mark_at, state_of}
-use Rattle.glb_core.specs.Sums.{join_to}
+use Rattle.glb_core.specs.World.{Setup, World, has_edge, state_of}
 use Rattle.glb_core.specs.Events.{name_of}
 use Rattle.glb_core.specs.Counters.{all_counters, counters_of}
-use Rattle.glb_core.specs.Sight.{Sight, in_edge, in_edges, out_edge, edge_waited, sight_at, each_below, in_names, IsMadeFor}
+use Rattle.glb_core.specs.Sight.{in_edge, in_edges, out_edge, edge_waited, each_below, in_names}
 use Rattle.glb_core.proofs.SeenFacts.{map_each}
 use Rattle.glb_core.proofs.SetupFacts.{outs_are}
 use Rattle.glb_core.specs.declared.kinds.Kind.{Kind}
@@ -18,20 +16,17 @@ use Rattle.glb_core.specs.declared.kinds.Kind.TheVariants as kind
 use Rattle.glb_core.specs.declared.kinds.Mark.TheVariants as mark
 use Rattle.glb_core.specs.declared.kinds.Phase.{Phase}
 use Rattle.glb_core.specs.declared.kinds.Phase.TheVariants as phase
-use Rattle.glb_core.specs.declared.kinds.Edge.{Edge}
 use Rattle.glb_core.specs.declared.part.EdgeName.{EdgeName}
 use Rattle.glb_core.specs.declared.seen.InEdge.{InEdge}
 use Rattle.glb_core.specs.declared.seen.OutEdge.{OutEdge}
 use Rattle.glb_core.specs.declared.world.seat.Seat.{Seat}
 use Rattle.glb_core.specs.declared.world.seat.Slot.{Slot}
 use Rattle.glb_core.specs.declared.world.seat.Slot.TheVariants as kept
-use Rattle.glb_core.specs.Tables.{WorldView, Shows, ShowsPart, slot_index, mark_index, edge_in}
+use Rattle.glb_core.specs.Tables.{WorldView, ShowsPart, slot_index, mark_index}
 use Rattle.glb_core.specs.Standing.{StandsFor}
-use Rattle.glb_core.specs.TableEffects.{face_of}
 use Rattle.glb_core.specs.TableSights.{in_seen, out_seen, waited_seen, face_at, AllThieves, AllVictims}
-use Rattle.glb_core.proofs.SlotFacts.{element}
 use Rattle.glb_core.proofs.SeatFacts.{face_in}
-use Rattle.glb_core.proofs.ViewFacts.{places_are, seat_shown}
+use Rattle.glb_core.proofs.ViewFacts.{places_are}
 use Rattle.glb_core.proofs.ConditionFacts.{line_there}
 
 -- it holds of each member

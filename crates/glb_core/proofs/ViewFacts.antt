@@ -1,14 +1,13 @@
 -- A view that shows a world shows what an event makes of it, where the tables have the seat and the slot changed.
-use Rattle.std.proofs.Common.{◌≡◌, ◌≢◌, ℕ, ◌+◌, ◌*◌, ◌<◌, ◌≤◌, List, [], ◌∷◌, length, get_or, set, refl, sym, ap, ◌∙◌, subst, ⊎_elim, arith, length-set, get_or-set_same, get_or-set_other}
+use Rattle.std.proofs.Common.{◌≡◌, ◌≢◌, ℕ, ◌*◌, ◌<◌, ◌≤◌, List, [], get_or, set, refl, sym, ap, ◌∙◌, subst, ⊎_elim, arith, length-set, get_or-set_same, get_or-set_other}
 use Rattle.std.proofs.lemmas.Bool.{cases_eq, cases_lt}
 use Rattle.glb_laws.specs.Expansion.{combined}
-use Rattle.glb_core.specs.World.{Setup, World, WorldEdge, state_of}
+use Rattle.glb_core.specs.World.{Setup, World, state_of}
 use Rattle.glb_core.specs.Events.{actor, edge_of, IsInRange}
-use Rattle.glb_core.specs.Effects.{Change, touched, after, place_after, edge_after, live_after, stop_after}
+use Rattle.glb_core.specs.Effects.{Change, touched, after, place_after, live_after, stop_after}
 use Rattle.glb_core.specs.Steps.{IsEnabled, Step, Choice}
-use Rattle.glb_core.specs.Lawful.{IsLawful, across, all_done}
-use Rattle.glb_core.specs.Setups.{setup_of, IsProper}
-use Rattle.glb_core.proofs.Frames.{name_cases, Else}
+use Rattle.glb_core.specs.Setups.{IsProper}
+use Rattle.glb_core.proofs.Frames.{name_cases}
 use Rattle.glb_core.proofs.Replaced.{replaced, becomes}
 use Rattle.glb_core.proofs.SumFacts.{sum_same}
 use Rattle.glb_core.proofs.JoinFacts.{join_same}
@@ -26,9 +25,9 @@ use Rattle.glb_core.specs.declared.world.seat.Seat.{Seat}
 use Rattle.glb_core.specs.declared.world.seat.Slot.{Slot}
 use Rattle.glb_core.specs.declared.world.seat.Slot.TheVariants as kept
 use Rattle.glb_core.specs.Tables.{WorldView, Shows, ShowsPart, slot_index, edge_in}
-use Rattle.glb_core.specs.Standing.{StandsFor, LeadsFrom, HasFold, expanded}
+use Rattle.glb_core.specs.Standing.{StandsFor, LeadsFrom, expanded}
 use Rattle.glb_core.specs.TableEffects.{IsSimple, NamesBelow, AsksAnother, seat_after, slot_after, slot_named}
-use Rattle.glb_core.proofs.SlotFacts.{slot_apart, slot_below, at_index, of_index}
+use Rattle.glb_core.proofs.SlotFacts.{slot_apart, slot_below, of_index}
 use Rattle.glb_core.proofs.SeatFacts.{effect_part, effect_edge}
 
 -- the view with other seats, slots and numbers

@@ -1,5 +1,5 @@
 -- What the events that move or expand items do to a seat and a slot.
-use Rattle.std.specs.Prelude.{◌≡◌, ℕ, ◌+◌, ◌-◌, ◌*◌, ◌^◌, ◌<◌, ◌≤◌, List, ◌++◌, length, min, replicate, get_or, IsPermutation}
+use Rattle.std.specs.Prelude.{◌≡◌, ℕ, ◌+◌, ◌-◌, ◌^◌, ◌<◌, List, ◌++◌, length, min, replicate, get_or, IsPermutation}
 use Rattle.std.specs.Vec.{with_item}
 use Rattle.glb_stats.specs.declared.counters.Counters.{Counters}
 use Rattle.glb_core.specs.Effects.{took, slept, rests, tries_after}
@@ -28,7 +28,8 @@ abbrev pub units_in : {B I : Type 0} → (B → List I) → B → ℕ
 units_in items b = min (length (items b)) (2 ^ 64 - 1)
 
 -- the seat gives a part of its bag into the slot, whose mark is at this index
-pub record GivesPart {B I : Type 0} (items : B → List I) (k : Kind) (at : ℕ) (old new : Seat B) (z : Slot B) : Type 0 where
+pub record GivesPart {B I : Type 0} (items : B → List I) (k : Kind) (at : ℕ) (old new : Seat B)
+    (z : Slot B) : Type 0 where
   pub part : B
   pub slot_is : z ≡ slot.Loot part
   pub some : 0 < length (items part)
@@ -44,7 +45,8 @@ pub record GivesPart {B I : Type 0} (items : B → List I) (k : Kind) (at : ℕ)
       }
 
 -- the seat takes the part from the slot
-pub record TakesPart {B I : Type 0} (items : B → List I) (k : Kind) (old new : Seat B) (z : Slot B) : Type 0 where
+pub record TakesPart {B I : Type 0} (items : B → List I) (k : Kind) (old new : Seat B)
+    (z : Slot B) : Type 0 where
   pub part : B
   pub slot_is : z ≡ slot.Loot part
   pub merged : IsPermutation (items old.bag ++ items part) (items new.bag)
@@ -58,7 +60,8 @@ pub record TakesPart {B I : Type 0} (items : B → List I) (k : Kind) (old new :
       }
 
 -- the seat after a batch of so many expansions
-pub record AfterBatch {B I : Type 0} (items : B → List I) (most count : ℕ) (old new : Seat B) : Type 0 where
+pub record AfterBatch {B I : Type 0} (items : B → List I) (most count : ℕ)
+    (old new : Seat B) : Type 0 where
   pub marks : new.marks.items ≡ replicate (length old.marks.items) mark.Unseen
   pub seat :
       new
@@ -78,12 +81,14 @@ SlotFits fits p slot.Refused = Unit {0}
 SlotFits fits p (slot.Loot b) = fits b p
 
 -- every bag fits the program
-pub record AllFit {B P V : Type 0} (fits : B → P → Type 0) (x : WorldView B V) (p : P) : Type 0 where
+pub record AllFit {B P V : Type 0} (fits : B → P → Type 0) (x : WorldView B V)
+    (p : P) : Type 0 where
   pub seats : (i : ℕ) (d : Seat B) → i < length x.seats → fits (get_or x.seats i d).bag p
   pub slots : (j : ℕ) (d : Slot B) → j < length x.slots → SlotFits fits p (get_or x.slots j d)
 
 -- each program that every bag of the old view fits, every bag of the new one fits
-pub record KeepAllFit {B P V : Type 0} (fits : B → P → Type 0) (old new : WorldView B V) : Type 0 where
+pub record KeepAllFit {B P V : Type 0} (fits : B → P → Type 0)
+    (old new : WorldView B V) : Type 0 where
   pub kept : (p : P) → AllFit fits old p → AllFit fits new p
 
 -- the slots show the same edge

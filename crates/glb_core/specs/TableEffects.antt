@@ -1,6 +1,6 @@
 -- What an event does to a seat and a slot, but for the events that move or expand items.
 use Rattle.glb_core.specs.Events.{actor, edge_of}
-use Rattle.std.specs.Prelude.{◌<◌, ◌≤◌, ◌≢◌, ◌≡◌, ◌⊎◌, List, length, get_or, ℕ, ◌+◌, ◌-◌, ◌*◌, ◌/◌, ◌^◌, min}
+use Rattle.std.specs.Prelude.{◌<◌, ◌≤◌, ◌≢◌, ◌≡◌, ◌⊎◌, List, length, get_or, ℕ, ◌+◌, ◌-◌}
 use Rattle.std.specs.Vec.{with_item}
 use Rattle.rand_pcg.specs.Lcg.{next}
 use Rattle.rand_pcg.specs.Pcg.{multiplier_64, output_xsh_rr}
@@ -145,26 +145,34 @@ IsSimple (Give q t k) = ⊥
 IsSimple (Take p v k) = ⊥
 IsSimple _ = Unit {0}
 
--- some other place's steal edge to p is Asked, or one of the thieves' lines to p is Asked or Refused
+-- some other place's steal edge to p is Asked, or one of the thieves' lines to p is Asked or
+-- Refused
 abbrev pub WantedIn : {B : Type 0} → List (Slot B) → ℕ → ℕ → List ℕ → Type 0
 WantedIn slots n p thieves =
-    ((t : ℕ) × (t < n) × (t ≢ p) × (get_or slots (slot_index n kind.Steal t p) slot.Idle ≡ slot.Asked))
-    ⊎ ((i : ℕ) × (i < length thieves) × IsOpen (get_or slots (slot_index n kind.Line (get_or thieves i 0) p) slot.Idle))
+    ((t : ℕ) × (t < n) × (t ≢ p)
+    × (get_or slots (slot_index n kind.Steal t p) slot.Idle ≡ slot.Asked))
+    ⊎ ((i : ℕ) × (i < length thieves)
+    × IsOpen (get_or slots (slot_index n kind.Line (get_or thieves i 0) p) slot.Idle))
 
 -- Mint's condition on the tables; the thieves are the places that have a lifeline to p
-abbrev pub MayMint : {B I : Type 0} → (B → List I) → Seat B → List (Slot B) → ℕ → ℕ → List ℕ → Type 0
+abbrev pub MayMint : {B I : Type 0} → (B → List I) → Seat B → List (Slot B) → ℕ → ℕ → List ℕ
+    → Type 0
 MayMint items r slots n p thieves =
-    (r.phase ≡ phase.Working) × (r.credit ≡ credit.One) × (1 < length (items r.bag)) × WantedIn slots n p thieves
+    (r.phase ≡ phase.Working) × (r.credit ≡ credit.One) × (1 < length (items r.bag))
+    × WantedIn slots n p thieves
 
 -- Batch's condition on the tables
-abbrev pub MayBatch : {B I : Type 0} → (B → List I) → Seat B → List (Slot B) → ℕ → ℕ → List ℕ → Type 0
+abbrev pub MayBatch : {B I : Type 0} → (B → List I) → Seat B → List (Slot B) → ℕ → ℕ → List ℕ
+    → Type 0
 MayBatch items r slots n p thieves =
     (r.phase ≡ phase.Working) × (r.credit ≡ credit.One)
     × AllOthers n p (λ t. get_or r.marks.items (mark_index n kind.Steal t) mark.Unseen ≡ mark.Clear)
     × EachIn thieves (λ t. get_or r.marks.items (mark_index n kind.Line t) mark.Unseen ≡ mark.Clear)
-    × (1 < length (items r.bag) → EachIn thieves (λ t. get_or slots (slot_index n kind.Line t p) slot.Idle ≢ slot.Refused))
+    × (1 < length (items r.bag) → EachIn thieves
+    (λ t. get_or slots (slot_index n kind.Line t p) slot.Idle ≢ slot.Refused))
 
 -- Sleep's condition on the tables; the victims are those of p's lifelines
 abbrev pub MaySleep : {B : Type 0} → Seat B → List (Slot B) → ℕ → ℕ → List ℕ → Type 0
 MaySleep r slots n p victims =
-    (r.phase ≡ phase.Idle) × (r.tries ≡ 0) × EachIn victims (λ v. IsHeld (get_or slots (slot_index n kind.Line p v) slot.Idle))
+    (r.phase ≡ phase.Idle) × (r.tries ≡ 0) × EachIn victims
+    (λ v. IsHeld (get_or slots (slot_index n kind.Line p v) slot.Idle))

@@ -3,7 +3,6 @@ use Rattle.std.specs.Prelude.{◌≡◌, ◌⊎◌, ℕ, ◌+◌, ◌-◌, ◌*�
 use Rattle.rand_pcg.specs.Lcg.{Lcg, next, advance, started, increment_of}
 use Rattle.rand_pcg.specs.Pcg.{multiplier_64, output_xsh_rr}
 use Rattle.glb_cube.specs.Lines.{Cube, IsCube, has_number, outs_of}
-use Rattle.glb_stats.specs.declared.counters.Counters.{Counters}
 use Rattle.glb_core.specs.World.{WorldEdge, Idle, Asked, Refused, Loot, Setup, World, mark_at}
 use Rattle.glb_core.specs.Setups.{IsWithinLimits, setup_of, tries_of, has_items, bit}
 use Rattle.glb_core.specs.Sums.{sum_to}
@@ -16,7 +15,6 @@ use Rattle.glb_core.specs.declared.kinds.Kind.{Kind}
 use Rattle.glb_core.specs.declared.kinds.Kind.TheVariants as kind
 use Rattle.glb_core.specs.declared.kinds.Mark.TheVariants as mark
 use Rattle.glb_core.specs.declared.params.Params.{Params}
-use Rattle.glb_core.specs.declared.part.Counts.{Counts}
 use Rattle.glb_core.specs.declared.part.Part.{Part}
 use Rattle.glb_core.specs.declared.world.seat.Seat.{Seat}
 use Rattle.glb_core.specs.declared.world.seat.Slot.{Slot}
@@ -61,21 +59,25 @@ edge_in items slot.Asked = Asked
 edge_in items slot.Refused = Refused
 edge_in items (slot.Loot b) = Loot (items b)
 
--- a record shows the part of place p of n; its next victim is that of the word whose number is its count of asks
-pub record ShowsPart {B I : Type 0} (items : B → List I) (seed n p : ℕ) (r : Seat B) (a : Part I) : Type 0 where
+-- a record shows the part of place p of n; its next victim is that of the word whose number is its
+-- count of asks
+pub record ShowsPart {B I : Type 0} (items : B → List I) (seed n p : ℕ) (r : Seat B)
+    (a : Part I) : Type 0 where
   pub same_phase : r.phase ≡ a.phase
   pub same_credit : r.credit ≡ a.credit
   pub tries : r.tries ≡ a.tries
   pub bag : IsPermutation (items r.bag) a.bag
   pub many : length r.marks.items ≡ 2 * n
-  pub marks : (k : Kind) (t : ℕ) → t < n → get_or r.marks.items (mark_index n k t) mark.Unseen ≡ mark_at a.marks k t
+  pub marks : (k : Kind) (t : ℕ) → t < n → get_or r.marks.items (mark_index n k t) mark.Unseen
+      ≡ mark_at a.marks k t
   pub counters : r.counters ≡ counters_of a.count
   pub words :
       1 < n → r.words ≡ advance 64 multiplier_64 (a.count.asks + 1) (started 64 multiplier_64 seed (increment_of 64 p))
   pub victim : r.victim ≡ drawn seed n p a.count.asks
 
 -- the view shows the world over this setup
-pub record Shows {B I V : Type 0} (items : B → List I) (s : Setup) (x : WorldView B V) (w : World I) : Type 0 where
+pub record Shows {B I V : Type 0} (items : B → List I) (s : Setup) (x : WorldView B V)
+    (w : World I) : Type 0 where
   pub setup : s ≡ setup_of x.cube x.params s.awake
   pub places : x.cube.places ≡ x.params.places
   pub base : x.cube.base ≡ x.params.base
@@ -117,7 +119,8 @@ first_part tries bag = record {
   count = no_counts;
 }
 
--- the slot of a line at the start; the truth values say whether the thief is awake, and whether the line is there
+-- the slot of a line at the start; the truth values say whether the thief is awake, and whether
+-- the line is there
 abbrev pub first_slot : {B : Type 0} → Bool → Bool → Slot B
 first_slot true b = slot.Idle
 first_slot false true = slot.Refused
@@ -129,15 +132,18 @@ slot_first c awake kind.Steal t v = slot.Idle
 slot_first c awake kind.Line t v = first_slot (awake t) (has_number v (outs_of c t))
 
 -- every edge has its slot of the start
-pub record FirstSlots {B : Type 0} (c : Cube) (awake : ℕ → Bool) (n victims : ℕ) (slots : List (Slot B)) : Type 0 where
+pub record FirstSlots {B : Type 0} (c : Cube) (awake : ℕ → Bool) (n victims : ℕ)
+    (slots : List (Slot B)) : Type 0 where
   pub number : length slots ≡ victims * 2 * n
   pub edge :
       (k : Kind) (t v : ℕ) → t < n → v < victims
       → get_or slots (slot_index n k t v) slot.Idle ≡ slot_first c awake k t v
-  pub plain : (j : ℕ) (d : Slot B) → j < length slots → (get_or slots j d ≡ slot.Idle) ⊎ (get_or slots j d ≡ slot.Refused)
+  pub plain : (j : ℕ) (d : Slot B) → j < length slots → (get_or slots j d ≡ slot.Idle)
+      ⊎ (get_or slots j d ≡ slot.Refused)
 
 -- every seat shows a part of the start
-pub record FirstSeats {B I : Type 0} (items : B → List I) (params : Params) (bag_of : ℕ → List I) (number : ℕ) (seats : List (Seat B)) : Type 0 where
+pub record FirstSeats {B I : Type 0} (items : B → List I) (params : Params) (bag_of : ℕ → List I)
+    (number : ℕ) (seats : List (Seat B)) : Type 0 where
   pub number_is : length seats ≡ number
   pub seat :
       (p : ℕ) (d : Seat B) → p < number
@@ -162,13 +168,15 @@ pub record FirstVictim (places p : ℕ) (old new : Lcg) (v : ℕ) : Type 0 where
   pub none : places ≤ 1 → v ≡ 0
 
 -- the tables of the start of these bags, but that the bags are not in them yet
-pub record FirstTables {B I V : Type 0} (items : B → List I) (unit : V) (params : Params) (bags : List (List I)) (t : Tables B V) : Type 0 where
+pub record FirstTables {B I V : Type 0} (items : B → List I) (unit : V) (params : Params)
+    (bags : List (List I)) (t : Tables B V) : Type 0 where
   pub cube : IsCube t.lines
   pub places : t.lines.places ≡ params.places
   pub base : t.lines.base ≡ params.base
   pub params_are : t.params ≡ params
   pub seats : FirstSeats items params (λ _. []) params.places t.seats.items
-  pub slots : FirstSlots t.lines (λ p. has_items (get_or bags p [])) t.lines.places t.lines.places t.slots.items
+  pub slots : FirstSlots t.lines
+      (λ p. has_items (get_or bags p [])) t.lines.places t.lines.places t.slots.items
   pub live : t.live ≡ sum_to params.places (λ p. bit (has_items (get_or bags p [])))
   pub stop : t.stop ≡ 0
   pub total : t.total ≡ 0

@@ -1,4 +1,5 @@
-//! A world of places: what one driver plays, and what stands for the worlds of which the laws speak.
+//! A world of places: what one driver plays, and what stands for the worlds of which the laws
+//! speak.
 mod conditions;
 mod effects;
 mod events;
@@ -28,7 +29,8 @@ use std::alloc::Global;
 use std::marker::Model;
 use tables::Tables;
 
-/// A world of places, each with a bag. Of the items done it keeps their number and the combination of their values.
+/// A world of places, each with a bag. Of the items done it keeps their number and the combination
+/// of their values.
 #[derive(Drop)]
 pub struct World<P: Program, B: Bag<P>> {
     tables: Tables<B, P::Value>,
@@ -59,8 +61,10 @@ impl<P: Program, B: Bag<P>> World<P, B> {
     ) -> Result<World<P, B>, (NoMemory, Vec<B>)>
         requires limits { IsWithinLimits params.now }
         requires bags { length bags.items ≡ params.now.places }
-        ensures start { IfOk result (λ x. StartsAt B.items P.Value.unit params.now (map B.items bags.items) x) }
-        ensures fits { IfOk result (λ x. (p : P) → ListsFit B.fits p bags.items → AllFit B.fits x p) }
+        ensures start { IfOk result
+            (λ x. StartsAt B.items P.Value.unit params.now (map B.items bags.items) x) }
+        ensures fits { IfOk result
+            (λ x. (p : P) → ListsFit B.fits p bags.items → AllFit B.fits x p) }
         ensures returned { IfErr result (λ e. e.1.items ≡ bags.items) }
     {
         match start::make::<P, B>(alloc, program, params, &bags) {
@@ -77,11 +81,14 @@ impl<P: Program, B: Bag<P>> World<P, B> {
         requires named { NamesBelow self.old.cube.places event }
         requires fits { AllFit B.fits self.old program.now }
         requires total { self.old.total ≤ 2 ^ 41 }
-        ensures step { IfOk result (λ k. LeadsWholly B.items (P.children program.now) (P.value program.now) P.Value.combine
+        ensures step { IfOk result
+            (λ k. LeadsWholly B.items (P.children program.now) (P.value program.now) P.Value.combine
             P.Value.unit self.old event k self.new) }
-        ensures fault { IfErr result (λ f. Fails B.items (P.children program.now) (P.value program.now) P.Value.combine
+        ensures fault { IfErr result
+            (λ f. Fails B.items (P.children program.now) (P.value program.now) P.Value.combine
             P.Value.unit self.old event self.new f) }
-        ensures exact { HasNoCase {I = P.Item} B.items self.old event → result ≡ Err fault.NotEnabled }
+        ensures exact { HasNoCase {I = P.Item} B.items self.old event → result
+            ≡ Err fault.NotEnabled }
         ensures fits { KeepAllFit B.fits self.old self.new }
         ensures graph { self.new.cube ≡ self.old.cube }
         ensures params { self.new.params ≡ self.old.params }
@@ -102,7 +109,8 @@ impl<P: Program, B: Bag<P>> World<P, B> {
     pub fn look_round(&self, place: u32, seen: &mut Seen)
         requires place { place < self.now.cube.places }
         requires made { IsMadeFor self.now.cube place (sight_of seen.old) }
-        ensures seen { (s : Setup) (w : Whole P.Item) → StandsFor B.items s self.now w → sight_of seen.new ≡ sight_at s w place }
+        ensures seen { (s : Setup) (w : Whole P.Item) → StandsFor B.items s self.now w
+            → sight_of seen.new ≡ sight_at s w place }
         ensures made { IsMadeFor self.now.cube place (sight_of seen.new) }
     {
         sight::look_round(&self.tables, place, seen)
@@ -118,7 +126,8 @@ impl<P: Program, B: Bag<P>> World<P, B> {
     /// The number of credits and of parts that travel: the run is finished where it is 0.
     pub fn live(&self) -> u64
         ensures live { result ≡ self.now.live }
-        ensures world { (s : Setup) (w : Whole P.Item) → StandsFor B.items s self.now w → result ≡ w.live }
+        ensures world { (s : Setup) (w : Whole P.Item) → StandsFor B.items s self.now w → result
+            ≡ w.live }
     {
         self.tables.live
     }
@@ -126,7 +135,8 @@ impl<P: Program, B: Bag<P>> World<P, B> {
     /// The greatest code of a Halt, or 0.
     pub fn stop(&self) -> u64
         ensures stop { result ≡ self.now.stop }
-        ensures world { (s : Setup) (w : Whole P.Item) → StandsFor B.items s self.now w → result ≡ w.stop }
+        ensures world { (s : Setup) (w : Whole P.Item) → StandsFor B.items s self.now w → result
+            ≡ w.stop }
     {
         self.tables.stop
     }
@@ -144,7 +154,8 @@ impl<P: Program, B: Bag<P>> World<P, B> {
         ensures items { result.items ≡ self.total }
         ensures value { result.value ≡ self.value }
         ensures counters { result.counters.items ≡ map (λ y. y.counters) self.seats }
-        ensures world { (s : Setup) (w : Whole P.Item) → StandsFor B.items s self w → result.counters.items ≡ all_counters s w }
+        ensures world { (s : Setup) (w : Whole P.Item) → StandsFor B.items s self w
+            → result.counters.items ≡ all_counters s w }
     {
         let World { tables, report } = self;
         sight::report(tables, report)

@@ -89,7 +89,8 @@ fn is_line_kind(kind: Kind) -> bool
 
 /// Whether the request asks for work, or is remembered.
 fn is_wanted<B>(slot: &Slot<B>, kind: Kind) -> bool
-    ensures { result ≡ true ↔ (slot.now ≡ kept.Asked) ⊎ ((kind ≡ variant_kind.Line) × (slot.now ≡ kept.Refused)) }
+    ensures { result ≡ true ↔ (slot.now ≡ kept.Asked)
+        ⊎ ((kind ≡ variant_kind.Line) × (slot.now ≡ kept.Refused)) }
 {
     is_asked(slot) || (is_line_kind(kind) && is_refused(slot))
 }
@@ -187,7 +188,8 @@ fn is_clear(mark: Mark) -> bool
 }
 
 fn may_ask<B>(seat: &Seat<B>, slot: &Slot<B>, there: bool, kind: Kind) -> bool
-    ensures steal { kind ≡ variant_kind.Steal → (result ≡ true ↔ (seat.now.phase ≡ variant_phase.Idle)
+    ensures steal { kind ≡ variant_kind.Steal
+        → (result ≡ true ↔ (seat.now.phase ≡ variant_phase.Idle)
         × (0 < seat.now.tries) × (there ≡ true) × (slot.now ≡ kept.Idle)) }
     ensures line { kind ≡ variant_kind.Line → (result ≡ true ↔ (seat.now.phase ≡ variant_phase.Idle)
         × (seat.now.tries ≡ 0) × (there ≡ true) × (slot.now ≡ kept.Idle)) }
@@ -208,14 +210,16 @@ fn may_deny<P: Program, B: Bag<P>>(seat: &Seat<B>, slot: &Slot<B>) -> bool
 }
 
 fn may_give<B>(seat: &Seat<B>, slot: &Slot<B>, kind: Kind) -> bool
-    ensures { result ≡ true ↔ (seat.now.phase ≡ variant_phase.Working) × (seat.now.credit ≡ variant_credit.Minted)
+    ensures { result ≡ true ↔ (seat.now.phase ≡ variant_phase.Working)
+        × (seat.now.credit ≡ variant_credit.Minted)
         × ((slot.now ≡ kept.Asked) ⊎ ((kind ≡ variant_kind.Line) × (slot.now ≡ kept.Refused))) }
 {
     works(seat) && has_minted(seat) && is_wanted(slot, kind)
 }
 
 fn is_ready<B>(seat: &Seat<B>) -> bool
-    ensures { result ≡ true ↔ (seat.now.phase ≡ variant_phase.Asleep) ⊎ (seat.now.phase ≡ variant_phase.Idle)
+    ensures { result ≡ true ↔ (seat.now.phase ≡ variant_phase.Asleep)
+        ⊎ (seat.now.phase ≡ variant_phase.Idle)
         ⊎ ((seat.now.phase ≡ variant_phase.Working) × (seat.now.credit ≡ variant_credit.One)) }
 {
     sleeps(seat) || idles(seat) || (works(seat) && has_one(seat))
@@ -223,8 +227,10 @@ fn is_ready<B>(seat: &Seat<B>) -> bool
 
 fn may_take<B>(seat: &Seat<B>, slot: &Slot<B>, victim: u32, kind: Kind) -> bool
     ensures { result ≡ true ↔ IsLooted slot.now
-        × (((seat.now.phase ≡ variant_phase.Waiting victim kind) × (seat.now.credit ≡ variant_credit.One))
-        ⊎ ((kind ≡ variant_kind.Line) × ((seat.now.phase ≡ variant_phase.Asleep) ⊎ (seat.now.phase ≡ variant_phase.Idle)
+        × (((seat.now.phase ≡ variant_phase.Waiting victim kind)
+        × (seat.now.credit ≡ variant_credit.One))
+        ⊎ ((kind ≡ variant_kind.Line)
+        × ((seat.now.phase ≡ variant_phase.Asleep) ⊎ (seat.now.phase ≡ variant_phase.Idle)
         ⊎ ((seat.now.phase ≡ variant_phase.Working) × (seat.now.credit ≡ variant_credit.One))))) }
 {
     has_loot(slot)
@@ -241,7 +247,8 @@ fn may_burn<B>(seat: &Seat<B>) -> bool
 }
 
 fn may_shrug<B>(seat: &Seat<B>, slot: &Slot<B>, victim: u32, kind: Kind) -> bool
-    ensures { result ≡ true ↔ (seat.now.phase ≡ variant_phase.Waiting victim kind) × (slot.now ≡ kept.Refused) }
+    ensures { result ≡ true ↔ (seat.now.phase ≡ variant_phase.Waiting victim kind)
+        × (slot.now ≡ kept.Refused) }
 {
     waits(seat, victim, kind) && is_refused(slot)
 }
@@ -294,7 +301,9 @@ fn is_asked_by_steals<B>(slots: &[Slot<B>], places: u32, place: u32) -> bool
     requires few { places ≤ 64 }
     requires place { place < places }
     requires slots { length slots.now ≡ places * 2 * places }
-    ensures found { result ≡ true → (t : ℕ) × (t < places) × (t ≢ place) × (get_or slots.now (spec_slot_index places variant_kind.Steal t place) kept.Idle ≡ kept.Asked) }
+    ensures found { result ≡ true → (t : ℕ) × (t < places) × (t ≢ place)
+        × (get_or slots.now (spec_slot_index places variant_kind.Steal t place) kept.Idle
+        ≡ kept.Asked) }
     ensures none { result ≡ false → AllOthers places place
         (λ t. get_or slots.now (spec_slot_index places variant_kind.Steal t place) kept.Idle ≢ kept.Asked) }
 {
@@ -312,7 +321,8 @@ fn is_asked_by_lines<B>(slots: &[Slot<B>], places: u32, place: u32, thieves: &[u
     requires place { place < places }
     requires thieves { All (λ t. t < places) thieves.now }
     requires slots { length slots.now ≡ places * 2 * places }
-    ensures found { result ≡ true → (i : ℕ) × (i < length thieves.now) × IsOpen (get_or slots.now (spec_slot_index places variant_kind.Line (get_or thieves.now i 0) place) kept.Idle) }
+    ensures found { result ≡ true → (i : ℕ) × (i < length thieves.now)
+        × IsOpen (get_or slots.now (spec_slot_index places variant_kind.Line (get_or thieves.now i 0) place) kept.Idle) }
     ensures none { result ≡ false → EachIn thieves.now
         (λ t. IsOpen (get_or slots.now (spec_slot_index places variant_kind.Line t place) kept.Idle) → ⊥) }
 {
@@ -333,7 +343,8 @@ fn holds_request<B>(slots: &[Slot<B>], places: u32, place: u32, thieves: &[u32])
     requires place { place < places }
     requires thieves { All (λ t. t < places) thieves.now }
     requires slots { length slots.now ≡ places * 2 * places }
-    ensures found { result ≡ true → (i : ℕ) × (i < length thieves.now) × (get_or slots.now (spec_slot_index places variant_kind.Line (get_or thieves.now i 0) place) kept.Idle ≡ kept.Refused) }
+    ensures found { result ≡ true → (i : ℕ) × (i < length thieves.now)
+        × (get_or slots.now (spec_slot_index places variant_kind.Line (get_or thieves.now i 0) place) kept.Idle ≡ kept.Refused) }
     ensures none { result ≡ false → EachIn thieves.now
         (λ t. get_or slots.now (spec_slot_index places variant_kind.Line t place) kept.Idle ≢ kept.Refused) }
 {

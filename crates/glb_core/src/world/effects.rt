@@ -191,7 +191,8 @@ pub(crate) fn slot_index(places: u32, kind: Kind, thief: u32, victim: u32) -> us
     (row * places + thief) as usize
 }
 
-/// Where the slot of the edge is that the event names. For an event without one it is that of an edge which is never
+/// Where the slot of the edge is that the event names. For an event without one it is that of an
+/// edge which is never
 /// there.
 pub(crate) fn slot_of(places: u32, event: Event) -> usize
     requires places { places ≤ 64 }

@@ -50,10 +50,12 @@ pub(crate) fn give<P: Program, B: Bag<P>>(
 ) -> Result<(), NoMemory>
     requires sound { IsSound {I = P.Item} B.items (view_of tables.old) }
     requires named { NamesBelow tables.old.lines.places (event.Give place thief kind) }
-    requires enabled { HasCase {I = P.Item} B.items (view_of tables.old) (event.Give place thief kind) }
+    requires enabled { HasCase {I = P.Item} B.items
+        (view_of tables.old) (event.Give place thief kind) }
     ensures given { OnOk result (LeadsWholly B.items (P.children program.now) (P.value program.now) P.Value.combine
         P.Value.unit (view_of tables.old) (event.Give place thief kind) 0 (view_of tables.new)) }
-    ensures refused { OnErr result (StandsAlike {I = P.Item} B.items (view_of tables.old) (view_of tables.new)) }
+    ensures refused { OnErr result (StandsAlike {I = P.Item} B.items (view_of tables.old)
+        (view_of tables.new)) }
     ensures fits { KeepAllFit B.fits (view_of tables.old) (view_of tables.new) }
     ensures graph { tables.new.lines ≡ tables.old.lines }
     ensures params { tables.new.params ≡ tables.old.params }
@@ -75,11 +77,13 @@ pub(crate) fn take<P: Program, B: Bag<P>>(
 ) -> Result<(), NoMemory>
     requires sound { IsSound {I = P.Item} B.items (view_of tables.old) }
     requires named { NamesBelow tables.old.lines.places (event.Take place victim kind) }
-    requires enabled { HasCase {I = P.Item} B.items (view_of tables.old) (event.Take place victim kind) }
+    requires enabled { HasCase {I = P.Item} B.items
+        (view_of tables.old) (event.Take place victim kind) }
     requires fits { AllFit B.fits (view_of tables.old) program.now }
     ensures taken { OnOk result (LeadsWholly B.items (P.children program.now) (P.value program.now) P.Value.combine
         P.Value.unit (view_of tables.old) (event.Take place victim kind) 0 (view_of tables.new)) }
-    ensures refused { OnErr result (StandsAlike {I = P.Item} B.items (view_of tables.old) (view_of tables.new)) }
+    ensures refused { OnErr result (StandsAlike {I = P.Item} B.items (view_of tables.old)
+        (view_of tables.new)) }
     ensures fits { KeepAllFit B.fits (view_of tables.old) (view_of tables.new) }
     ensures graph { tables.new.lines ≡ tables.old.lines }
     ensures params { tables.new.params ≡ tables.old.params }
@@ -102,7 +106,8 @@ pub(crate) fn batch<P: Program, B: Bag<P>>(
     requires enabled { HasCase {I = P.Item} B.items (view_of tables.old) (event.Batch place) }
     requires fits { AllFit B.fits (view_of tables.old) program.now }
     requires total { tables.old.total ≤ 2 ^ 41 }
-    ensures worked { IfOk result (λ k. LeadsWholly B.items (P.children program.now) (P.value program.now) P.Value.combine
+    ensures worked { IfOk result
+        (λ k. LeadsWholly B.items (P.children program.now) (P.value program.now) P.Value.combine
         P.Value.unit (view_of tables.old) (event.Batch place) k (view_of tables.new)) }
     ensures cut { OnErr result (LeadsInPart B.items (P.children program.now) (P.value program.now) P.Value.combine
         P.Value.unit (view_of tables.old) (event.Batch place) (view_of tables.new)) }
@@ -141,11 +146,14 @@ pub(crate) fn step<P: Program, B: Bag<P>>(
     requires named { NamesBelow tables.old.lines.places event }
     requires fits { AllFit B.fits (view_of tables.old) program.now }
     requires total { tables.old.total ≤ 2 ^ 41 }
-    ensures step { IfOk result (λ k. LeadsWholly B.items (P.children program.now) (P.value program.now) P.Value.combine
+    ensures step { IfOk result
+        (λ k. LeadsWholly B.items (P.children program.now) (P.value program.now) P.Value.combine
         P.Value.unit (view_of tables.old) event k (view_of tables.new)) }
-    ensures fault { IfErr result (λ f. Fails B.items (P.children program.now) (P.value program.now) P.Value.combine
+    ensures fault { IfErr result
+        (λ f. Fails B.items (P.children program.now) (P.value program.now) P.Value.combine
         P.Value.unit (view_of tables.old) event (view_of tables.new) f) }
-    ensures exact { HasNoCase {I = P.Item} B.items (view_of tables.old) event → result ≡ Err fault.NotEnabled }
+    ensures exact { HasNoCase {I = P.Item} B.items (view_of tables.old) event → result
+        ≡ Err fault.NotEnabled }
     ensures sound { IsSound {I = P.Item} B.items (view_of tables.new) }
     ensures fits { KeepAllFit B.fits (view_of tables.old) (view_of tables.new) }
     ensures graph { tables.new.lines ≡ tables.old.lines }

@@ -50,7 +50,8 @@ pub(crate) fn give_part<P: Program, B: Bag<P>>(
     ensures bag_stays { OnErr result (B.items seat.new.bag ≡ B.items seat.old.bag) }
     ensures slot_stays { OnErr result (slot.new ≡ slot.old) }
     ensures fits { KeepsFit (B.fits seat.old.bag) (B.fits seat.new.bag) }
-    ensures slot_fits { (p : P) → B.fits seat.old.bag p → SlotFits B.fits p slot.old → SlotFits B.fits p slot.new }
+    ensures slot_fits { (p : P) → B.fits seat.old.bag p → SlotFits B.fits p slot.old
+        → SlotFits B.fits p slot.new }
 {
     match seat.bag.split()? {
         Some(part) => {
@@ -143,7 +144,8 @@ fn settle<P: Program, B: Bag<P>>(seat: &mut Seat<B>, tries: u32, count: u64)
     seat.counters.items = seat.counters.items.saturating_add(count);
 }
 
-/// Expands up to `most` items of the bag, and combines their values into `value`. Where memory runs out before the
+/// Expands up to `most` items of the bag, and combines their values into `value`. Where memory
+/// runs out before the
 /// first one, the seat stays.
 pub(crate) fn work<P: Program, B: Bag<P>>(
     seat: &mut Seat<B>,
@@ -156,13 +158,17 @@ pub(crate) fn work<P: Program, B: Bag<P>>(
     requires items { 0 < length (B.items seat.old.bag) }
     requires some { 1 ≤ most }
     requires fits { B.fits seat.old.bag program.now }
-    ensures done { IfOk result (λ k. Expands (P.children program.now) (P.value program.now) P.Value.combine
+    ensures done { IfOk result
+        (λ k. Expands (P.children program.now) (P.value program.now) P.Value.combine
         (B.items seat.old.bag) value.old k (B.items seat.new.bag) value.new) }
-    ensures whole { IfOk result (λ k. (1 ≤ k) × (k ≤ most) × (k < most → length (B.items seat.new.bag) ≡ 0)) }
+    ensures whole { IfOk result
+        (λ k. (1 ≤ k) × (k ≤ most) × (k < most → length (B.items seat.new.bag) ≡ 0)) }
     ensures settled { IfOk result (λ k. AfterBatch B.items tries k seat.old seat.new) }
-    ensures stopped { IfErr result (λ e. Expands (P.children program.now) (P.value program.now) P.Value.combine
+    ensures stopped { IfErr result
+        (λ e. Expands (P.children program.now) (P.value program.now) P.Value.combine
         (B.items seat.old.bag) value.old e.done (B.items seat.new.bag) value.new) }
-    ensures cut { IfErr result (λ e. (e.done < most) × (1 ≤ e.done → AfterBatch B.items tries e.done seat.old seat.new)
+    ensures cut { IfErr result
+        (λ e. (e.done < most) × (1 ≤ e.done → AfterBatch B.items tries e.done seat.old seat.new)
         × (e.done ≡ 0 → seat.new ≡ record seat.old { bag = seat.new.bag })) }
     ensures fits { KeepsFit (B.fits seat.old.bag) (B.fits seat.new.bag) }
 {

@@ -3,7 +3,8 @@ use crate::{Credit, Mark, Phase};
 use glb_stats::Counters;
 use rand_pcg::Pcg32;
 
-/// What a world keeps of a place: its part, and the generator of its random victims with the next one.
+/// What a world keeps of a place: its part, and the generator of its random victims with the next
+/// one.
 #[derive(Drop)]
 pub struct Seat<B> {
     pub phase: Phase,

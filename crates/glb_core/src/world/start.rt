@@ -163,7 +163,8 @@ fn first_slots<P: Program, B: Bag<P>>(
     bags: &[B],
 ) -> Result<Vec<Slot<B>>, NoMemory>
     requires { length bags.now ≡ lines.now.places }
-    ensures { IfOk result (λ v. FirstSlots lines.now (λ p. has_items (get_or (map B.items bags.now) p [])) lines.now.places
+    ensures { IfOk result (λ v. FirstSlots lines.now
+        (λ p. has_items (get_or (map B.items bags.now) p [])) lines.now.places
         lines.now.places v.items) }
 {
     let mut slots = Vec::new(alloc);
@@ -204,7 +205,8 @@ fn no_counters(alloc: Global, places: u32) -> Result<Vec<Counters>, NoMemory>
     Ok(counters)
 }
 
-/// The tables of the start of the bags, but that the bags are not in them yet, and room for the counters of a report.
+/// The tables of the start of the bags, but that the bags are not in them yet, and room for the
+/// counters of a report.
 pub(crate) fn make<P: Program, B: Bag<P>>(
     alloc: Global,
     program: &P,
@@ -213,7 +215,8 @@ pub(crate) fn make<P: Program, B: Bag<P>>(
 ) -> Result<(Tables<B, P::Value>, Vec<Counters>), NoMemory>
     requires limits { IsWithinLimits params.now }
     requires bags { length bags.now ≡ params.now.places }
-    ensures tables { IfOk result (λ t. FirstTables B.items P.Value.unit params.now (map B.items bags.now) t.0) }
+    ensures tables { IfOk result
+        (λ t. FirstTables B.items P.Value.unit params.now (map B.items bags.now) t.0) }
     ensures report { IfOk result (λ t. vec_len t.1 ≡ params.now.places) }
 {
     let lines = cube(alloc, params.places, params.base)?;
@@ -254,7 +257,8 @@ pub(crate) fn fill<P: Program, B: Bag<P>>(seats: &mut Vec<Seat<B>>, bags: Vec<B>
     requires asleep { AllAsleep seats.old.items }
     ensures number { length seats.new.items ≡ length seats.old.items }
     ensures seats { (i : ℕ) (d : Seat B) (e : B) → i < length bags.items →
-        get_or seats.new.items i d ≡ seated B.items (get_or bags.items i e) (get_or seats.old.items i d) }
+        get_or seats.new.items i d
+        ≡ seated B.items (get_or bags.items i e) (get_or seats.old.items i d) }
 {
     let mut bags = bags;
     while let Some(bag) = bags.pop() {

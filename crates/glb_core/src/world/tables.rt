@@ -3,7 +3,8 @@ use super::seat::{Seat, Slot};
 use crate::Params;
 use glb_cube::Lines;
 
-/// The tables of a world: a seat for each place, and for each place a row of slots for its in-edges.
+/// The tables of a world: a seat for each place, and for each place a row of slots for its
+/// in-edges.
 #[derive(Drop)]
 pub struct Tables<B, V> {
     pub lines: Lines,

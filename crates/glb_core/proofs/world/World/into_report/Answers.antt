@@ -1,4 +1,4 @@
-use Rattle.std.proofs.Common.{ap, ◌∙◌, sym, map, arith}
+use Rattle.std.proofs.Common.{ap, ◌∙◌, sym, map}
 use Rattle.glb_core.proofs.TableSightFacts.{counters_told}
 use Rattle.glb_core.proofs.world.World.into_report.Goals as goal
 

@@ -1,4 +1,4 @@
-use Rattle.std.proofs.Common.{ap, ◌∙◌, sym, subst, map, length}
+use Rattle.std.proofs.Common.{◌∙◌, sym, subst, map}
 use Rattle.glb_core.specs.Tables.{FirstTables}
 use Rattle.glb_core.proofs.StartFacts.{started_at, started_fits}
 use Rattle.glb_core.proofs.world.World.new.Goals as goal

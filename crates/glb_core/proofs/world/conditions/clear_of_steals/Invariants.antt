@@ -1,9 +1,7 @@
 use Rattle.std.proofs.Common.{◌≡◌, ◌≢◌, ◌<◌, ℕ, get_or}
 use Rattle.glb_core.specs.declared.kinds.Kind.TheVariants as kind
 use Rattle.glb_core.specs.declared.kinds.Mark.TheVariants as mark
-use Rattle.glb_core.specs.declared.world.seat.Slot.TheVariants as kept
-use Rattle.glb_core.specs.Tables.{mark_index, slot_index}
-use Rattle.glb_core.specs.TableEffects.{IsOpen, IsHeld}
+use Rattle.glb_core.specs.Tables.{mark_index}
 use Rattle.glb_core.proofs.world.conditions.clear_of_steals.Given as goal
 
 abbrev pub invariant-loop-thief : goal.invariant-loop-thief

@@ -2,7 +2,6 @@ use Rattle.std.proofs.Common.{arith, get_or, ◌≡◌}
 use Rattle.glb_core.specs.declared.kinds.Kind.TheVariants as kind
 use Rattle.glb_core.specs.declared.world.seat.Slot.TheVariants as kept
 use Rattle.glb_core.specs.Tables.{slot_index}
-use Rattle.glb_core.specs.TableEffects.{IsOpen}
 use Rattle.glb_core.proofs.SlotFacts.{slot_below, at_index}
 use Rattle.glb_core.proofs.world.conditions.holds_request.Goals as goal
 

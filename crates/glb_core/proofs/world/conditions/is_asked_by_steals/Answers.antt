@@ -1,4 +1,4 @@
-use Rattle.std.proofs.Common.{arith, get_or, ◌≡◌}
+use Rattle.std.proofs.Common.{arith, ◌≡◌}
 use Rattle.glb_core.specs.declared.kinds.Kind.TheVariants as kind
 use Rattle.glb_core.specs.declared.world.seat.Slot.TheVariants as kept
 use Rattle.glb_core.specs.Tables.{slot_index}

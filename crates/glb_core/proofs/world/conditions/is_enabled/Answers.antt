@@ -1,7 +1,6 @@
-use Rattle.std.proofs.Common.{◌≡◌, ◌≢◌, ℕ, ◌<◌, true, arith, get_or, length, ap, sym, ◌∙◌, subst, All}
-use Rattle.glb_cube.specs.Lines.{outs_of, ins_of, has_number, IsLine}
+use Rattle.std.proofs.Common.{◌≡◌, ◌<◌, true, arith, get_or, length, ap, sym, ◌∙◌, subst, All}
+use Rattle.glb_cube.specs.Lines.{IsLine}
 use Rattle.glb_core.specs.Events.{actor, edge_of}
-use Rattle.glb_core.specs.declared.kinds.Kind.TheVariants as kind
 use Rattle.glb_core.specs.declared.kinds.Phase.TheVariants as phase
 use Rattle.glb_core.specs.declared.kinds.Mark.TheVariants as mark
 use Rattle.glb_core.specs.declared.event.Event.TheVariants as event

@@ -1,19 +1,12 @@
-use Rattle.std.proofs.Common.{◌≡◌, ◌<◌, arith, ap, ◌∙◌, set, subst, sym, refl, length, get_or, ⊎_elim}
-use Rattle.std.proofs.lemmas.Result.{on_ok_weaker}
-use Rattle.glb_core.specs.declared.event.Event.TheVariants as event
-use Rattle.glb_core.proofs.JoinFacts.{same}
-use Rattle.glb_core.specs.Tables.{view_of, mark_index, slot_index, edge_in}
-use Rattle.glb_core.specs.ItemEffects.{SlotFits}
-use Rattle.glb_core.proofs.SlotFacts.{slot_below, mark_below, get_or-any}
+use Rattle.std.proofs.Common.{◌≡◌, ◌<◌, arith, ap, ◌∙◌, set, subst, sym, refl, length, ⊎_elim}
+use Rattle.glb_core.specs.Tables.{view_of}
 use Rattle.glb_core.proofs.SeatFacts.{size_of}
-use Rattle.glb_core.proofs.ConditionFacts.{loot_in}
 use Rattle.glb_core.proofs.FitFacts.{fits_seat, bag_at}
-use Rattle.glb_core.proofs.ViewFacts.{seat_shown, slot_shown, places_are}
+use Rattle.glb_core.proofs.ViewFacts.{seat_shown, places_are}
 use Rattle.glb_core.proofs.ItemFacts.{works, stays_at, value_stays, rest_none}
-use Rattle.std.proofs.Common.{inl, inr, ◌⊎◌, ◌≤◌, ◌+◌, List, []}
+use Rattle.std.proofs.Common.{inl, inr, ◌≤◌, ◌+◌}
 use Rattle.glb_core.specs.Lawful.{PhaseFits}
 use Rattle.std.proofs.lemmas.Bool.{cases_lt}
-use Rattle.glb_core.specs.Setups.{tries_of}
 use Rattle.glb_core.specs.ItemEffects.{AfterBatch}
 use Rattle.glb_core.proofs.world.events.batch.Goals as goal
 

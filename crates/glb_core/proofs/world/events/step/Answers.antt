@@ -1,7 +1,5 @@
-use Rattle.std.proofs.Common.{subst, sym, ⊎_elim, ◌≡◌}
-use Rattle.std.specs.Prelude.{Result, Err, Ok}
+use Rattle.std.proofs.Common.{subst, sym, ⊎_elim}
 use Rattle.glb_core.specs.Steps.{IsEnabled}
-use Rattle.glb_core.specs.declared.event.Event.TheVariants as event
 use Rattle.glb_core.specs.Tables.{view_of}
 use Rattle.glb_core.specs.Standing.{LeadsWholly}
 use Rattle.glb_core.proofs.world.events.step.Goals as goal

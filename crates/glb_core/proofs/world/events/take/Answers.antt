@@ -1,15 +1,12 @@
-use Rattle.std.proofs.Common.{◌≡◌, ◌<◌, arith, ap, ◌∙◌, set, subst, sym, refl, length, get_or}
-use Rattle.std.proofs.lemmas.Result.{on_ok_weaker}
-use Rattle.glb_core.specs.declared.event.Event.TheVariants as event
+use Rattle.std.proofs.Common.{◌<◌, arith, ap, ◌∙◌, set, subst, sym, refl, length}
 use Rattle.glb_core.proofs.JoinFacts.{same}
-use Rattle.glb_core.specs.Tables.{view_of, mark_index, slot_index, edge_in}
+use Rattle.glb_core.specs.Tables.{view_of, slot_index}
 use Rattle.glb_core.specs.ItemEffects.{SlotFits}
-use Rattle.glb_core.proofs.SlotFacts.{slot_below, mark_below, get_or-any}
-use Rattle.glb_core.proofs.SeatFacts.{size_of}
+use Rattle.glb_core.proofs.SlotFacts.{slot_below}
 use Rattle.glb_core.proofs.ConditionFacts.{loot_in}
 use Rattle.glb_core.proofs.FitFacts.{fits_set, bag_at, part_at}
-use Rattle.glb_core.proofs.ViewFacts.{seat_shown, slot_shown, places_are}
-use Rattle.glb_core.proofs.ItemFacts.{gives, takes, works, kept_world, reordered, on_err_3, on_ok_2}
+use Rattle.glb_core.proofs.ViewFacts.{seat_shown, slot_shown}
+use Rattle.glb_core.proofs.ItemFacts.{takes, kept_world, reordered, on_err_3, on_ok_2}
 use Rattle.glb_core.proofs.world.events.take.Goals as goal
 
 pub returns-clause-taken : goal.returns-clause-taken

@@ -1,5 +1,4 @@
-use Rattle.std.proofs.Common.{refl, ap, ◌∙◌, rules, subst, sym}
-use Rattle.glb_core.specs.ItemEffects.{count_given, units_in}
+use Rattle.std.proofs.Common.{refl}
 use Rattle.glb_core.proofs.world.items.give_part.Goals as goal
 
 pub returns-clause-given : goal.returns-clause-given

@@ -1,12 +1,11 @@
-use Rattle.std.proofs.Common.{◌≡◌, ◌*◌, ◌<◌, ℕ, ap, ◌∙◌, sym, subst, map, length, get_or, refl, arith, ◌==◌}
+use Rattle.std.proofs.Common.{◌≡◌, ap, ◌∙◌, sym, subst, map, length, get_or, refl, arith, ◌==◌}
 use Rattle.std.proofs.lemmas.List.{with_items_is, length-map}
-use Rattle.glb_core.specs.declared.kinds.Kind.{Kind}
 use Rattle.glb_core.specs.Events.{name_of}
 use Rattle.glb_core.specs.declared.seen.InEdge.{InEdge}
 use Rattle.glb_core.specs.declared.seen.OutEdge.{OutEdge}
 use Rattle.glb_core.specs.Tables.{view_of}
 use Rattle.glb_core.specs.TableSights.{in_seen, out_seen, waited_seen, AllThieves, AllVictims}
-use Rattle.glb_core.proofs.ViewFacts.{seat_shown, places_are}
+use Rattle.glb_core.proofs.ViewFacts.{seat_shown}
 use Rattle.glb_core.proofs.TableSightFacts.{thieves_near, victims_near, ins_told, outs_told, waited_told, near_shown, ins_named, outs_named}
 use Rattle.glb_core.proofs.world.sight.look_round.Goals as goal
 

@@ -1,4 +1,4 @@
-use Rattle.std.proofs.Common.{◌≡◌, ◌<◌, ◌≤◌, ℕ, length, get_or}
+use Rattle.std.proofs.Common.{◌≡◌, ◌<◌, ◌≤◌, ℕ, get_or}
 use Rattle.glb_core.specs.TableSights.{in_seen}
 use Rattle.glb_core.proofs.world.sight.see_ins.Given as goal
 

@@ -1,12 +1,10 @@
 use Rattle.std.proofs.Common.{◌+◌, ◌<◌, ◌≡◌, arith, refl, ap, ◌∙◌, sym, subst, get_or, set, length}
 use Rattle.glb_core.specs.declared.kinds.Kind.TheVariants as kind
 use Rattle.glb_core.specs.declared.kinds.Edge.TheVariants as seen
-use Rattle.glb_core.specs.declared.kinds.Mark.TheVariants as mark
 use Rattle.glb_core.specs.declared.world.seat.Slot.TheVariants as kept
-use Rattle.glb_core.specs.Tables.{slot_index, mark_index}
 use Rattle.glb_core.specs.TableEffects.{face_of}
-use Rattle.glb_core.specs.TableSights.{in_seen, out_seen, face_at}
-use Rattle.glb_core.proofs.SlotFacts.{get_or-any, slot_below, mark_below}
+use Rattle.glb_core.specs.TableSights.{out_seen, face_at}
+use Rattle.glb_core.proofs.SlotFacts.{get_or-any, slot_below}
 use Rattle.glb_core.proofs.FillFacts.{map_pointwise, pointwise_more, rest_stays}
 use Rattle.glb_core.proofs.world.sight.see_outs.Goals as goal
 

@@ -1,8 +1,7 @@
 use Rattle.std.proofs.Common.{◌<◌, arith, ◌∙◌, sym, ap, get_or, length}
 use Rattle.glb_core.specs.declared.world.seat.Slot.TheVariants as kept
-use Rattle.glb_core.specs.Tables.{slot_index}
 use Rattle.glb_core.specs.TableEffects.{face_of}
-use Rattle.glb_core.specs.TableSights.{waited_seen, face_at}
+use Rattle.glb_core.specs.TableSights.{waited_seen}
 use Rattle.glb_core.proofs.SlotFacts.{slot_below, get_or-any}
 use Rattle.glb_core.proofs.world.sight.see_waited.Goals as goal
 

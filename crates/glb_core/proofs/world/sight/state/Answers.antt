@@ -1,4 +1,4 @@
-use Rattle.std.proofs.Common.{ap, ◌∙◌, sym, get_or, refl, min, ◌-◌, ◌^◌, length}
+use Rattle.std.proofs.Common.{ap, ◌∙◌, sym, get_or, refl, min, ◌-◌, ◌^◌}
 use Rattle.glb_core.specs.Draws.{drawn}
 use Rattle.glb_core.specs.Tables.{view_of}
 use Rattle.glb_core.proofs.SeatFacts.{size_of}

@@ -1,4 +1,4 @@
-use Rattle.std.proofs.Common.{◌+◌, arith, refl, ap, ◌∙◌, sym}
+use Rattle.std.proofs.Common.{◌+◌, arith, refl, ap, ◌∙◌}
 use Rattle.glb_core.proofs.SlotFacts.{get_or-any}
 use Rattle.glb_core.proofs.FillFacts.{map_pointwise, pointwise_more}
 use Rattle.glb_core.proofs.world.sight.tell_counters.Goals as goal

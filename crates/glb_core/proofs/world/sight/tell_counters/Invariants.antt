@@ -1,4 +1,4 @@
-use Rattle.std.proofs.Common.{◌≡◌, ◌<◌, ℕ, length, get_or}
+use Rattle.std.proofs.Common.{◌≡◌, ◌<◌, ℕ, get_or}
 use Rattle.glb_core.proofs.world.sight.tell_counters.Given as goal
 
 abbrev pub invariant-loop-place : goal.invariant-loop-place

@@ -1,4 +1,4 @@
-use Rattle.std.proofs.Common.{◌*◌, ◌<◌, ap, ◌∙◌, refl, arith, length, get_or, sym}
+use Rattle.std.proofs.Common.{◌*◌, ap, ◌∙◌, refl, arith, length, get_or}
 use Rattle.std.proofs.lemmas.List.{get_or-replicate, length-replicate}
 use Rattle.rand_pcg.specs.Lcg.{started, increment_of}
 use Rattle.rand_pcg.specs.Pcg.{multiplier_64}

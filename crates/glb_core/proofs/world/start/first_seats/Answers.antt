@@ -1,5 +1,4 @@
 use Rattle.std.proofs.Common.{[], ◌+◌, refl, ap, arith, length}
-use Rattle.glb_core.specs.Tables.{FirstSeats}
 use Rattle.glb_core.proofs.StartFacts.{seats_more}
 use Rattle.glb_core.proofs.world.start.first_seats.Goals as goal
 

@@ -1,7 +1,6 @@
-use Rattle.std.proofs.Common.{map, get_or, [], refl, ap, arith, length, ◌∙◌, subst, ◌++◌, ◌+◌, replicate}
+use Rattle.std.proofs.Common.{map, get_or, [], refl, ap, arith, length, ◌∙◌, ◌++◌, ◌+◌, replicate}
 use Rattle.glb_core.specs.Setups.{has_items}
 use Rattle.glb_core.specs.declared.world.seat.Slot.TheVariants as kept
-use Rattle.glb_core.specs.Tables.{FirstSlots}
 use Rattle.glb_core.proofs.StartFacts.{rows_more}
 use Rattle.glb_core.proofs.world.start.first_slots.Goals as goal
 
