@@ -1,2 +1,3 @@
 //! Worked cases.
 mod decisions;
+mod worlds;
