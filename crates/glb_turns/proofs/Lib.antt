@@ -1,0 +1,5 @@
+pub mod TurnFacts
+pub mod StepFacts
+pub mod PlayFacts
+pub mod BagFacts
+pub mod ReportFacts

@@ -1,0 +1,14 @@
+use Rattle.std.proofs.Common.{◌≡◌, ◌≤◌, ◌+◌, ◌*◌, ◌^◌, length}
+use Rattle.glb_core.specs.ItemEffects.{AllFit}
+use Rattle.glb_turns.specs.Turns.{IsPlayed, HasSights}
+use Rattle.glb_turns.proofs.driver.halt.Given as goal
+
+abbrev pub invariant-loop : goal.invariant-loop
+invariant-loop g l = record {
+  many : length l.seens.items ≡ l.world.cube.places;
+  sights : HasSights l.world.cube l.seens.items;
+  played : IsPlayed {I = g.row.P-Item.Denot} g.B.Bag.items l.world;
+  fits : AllFit g.B.Bag.fits l.world l.program;
+  few : l.places ≤ 64;
+  total : l.world.total ≤ 2 ^ 40 + 65536 * (l.counter + 2);
+}

@@ -1,0 +1,69 @@
+use Rattle.std.proofs.Common.{◌∙◌, ◌≤◌, ◌^◌, [], map, get_or, subst, ap, arith}
+use Rattle.glb_core.specs.Sums.{join_to}
+use Rattle.glb_core.specs.declared.params.Params.{Params}
+use Rattle.glb_tree.specs.Runs.{HasCause}
+use Rattle.glb_turns.specs.Turns.{HasSights}
+use Rattle.glb_turns.proofs.ReportFacts.{starts_begin, begins_none, cause_moved, joined_same, report_of}
+use Rattle.glb_turns.proofs.driver.run_turns.Goals as goal
+
+pub play-requires-clause-sights : goal.play-requires-clause-sights
+play-requires-clause-sights g c =
+    subst (λ k. HasSights k c.in-Ok-sights_of.seens.items) c.lines.ensures
+    c.in-Ok-sights_of.ensures.sights
+
+pub play-requires-clause-fits : goal.play-requires-clause-fits
+play-requires-clause-fits g c = c.in-Ok-new.ensures.fits c.args.program.now c.in-Ok.ensures.fits
+
+pub play-requires-clause-begins : goal.play-requires-clause-begins
+play-requires-clause-begins g c = (
+  λ p. get_or (map g.B.Bag.items c.in-Ok.bags.items) p [],
+  starts_begin g.B.Bag.items (g.P.Program.value c.args.program.now) g.P.Value.Monoid.combine
+      g.P.Value.Monoid.unit c.in-Ok-new.world c.args.params.now (map g.B.Bag.items c.in-Ok.bags.items)
+      c.in-Ok-new.ensures.start,
+)
+
+pub play-requires-clause-none_done : goal.play-requires-clause-none_done
+play-requires-clause-none_done g c =
+    begins_none g.B.Bag.items (g.P.Program.value c.args.program.now) g.P.Value.Monoid.combine
+    g.P.Value.Monoid.unit c.in-Ok-new.world
+    (λ p. get_or (map g.B.Bag.items c.in-Ok.bags.items) p [])
+    (starts_begin g.B.Bag.items (g.P.Program.value c.args.program.now) g.P.Value.Monoid.combine
+    g.P.Value.Monoid.unit c.in-Ok-new.world c.args.params.now (map g.B.Bag.items c.in-Ok.bags.items)
+    c.in-Ok-new.ensures.start)
+
+pub returns-in-Ok-play-clause-ok : goal.returns-in-Ok-play-clause-ok
+returns-in-Ok-play-clause-ok g c =
+    let laws = g.met.P.Value.Monoid.monoid_laws in
+    let proper = g.met.P.Program.value_proper c.args.program.now in
+    let G =
+    starts_begin g.B.Bag.items (g.P.Program.value c.args.program.now) g.P.Value.Monoid.combine
+    g.P.Value.Monoid.unit c.in-Ok-new.world c.args.params.now
+    (map g.B.Bag.items c.in-Ok.bags.items) c.in-Ok-new.ensures.start
+    in
+    let e = c.in-Ok-play.ensures.played _ G in
+    let few : c.play.new.world.total ≤ 2 ^ 40 =
+    omega (arith, c.in-Ok-play.ensures.within, c.requires.limits.limit.1)
+    in
+    report_of g.B.Bag.items (g.P.Program.children c.args.program.now)
+    (g.P.Program.value c.args.program.now) laws proper c.in-Ok-new.world _ _ G c.play.new.world e
+    few c.args.params.now _ _ _ _ c.in-Ok-new.ensures.start.0 c.in-Ok.ensures.items
+    c.in-Ok-play.ensures.within c.into_report.ensures.items c.into_report.ensures.value
+    (c.into_report.ensures.world _ e.plays.world e.plays.stands)
+
+pub returns-in-Err-play-clause-fault : goal.returns-in-Err-play-clause-fault
+returns-in-Err-play-clause-fault g c =
+    let G =
+    starts_begin g.B.Bag.items (g.P.Program.value c.args.program.now) g.P.Value.Monoid.combine
+    g.P.Value.Monoid.unit c.in-Ok-new.world c.args.params.now
+    (map g.B.Bag.items c.in-Ok.bags.items) c.in-Ok-new.ensures.start
+    in
+    let cause = c.in-Err-play.ensures.fault _ G in
+    let places = G.stands.shows.places ∙ ap (λ (q : Params). q.places) c.in-Ok-new.ensures.start.0 in
+    let batch = ap (λ (q : Params). q.batch) c.in-Ok-new.ensures.start.0 in
+    let batched =
+    subst (λ n. HasCause (g.P.Program.children c.args.program.now)
+    (join_to c.in-Ok-new.world.cube.places
+    (λ p. get_or (map g.B.Bag.items c.in-Ok.bags.items) p [])) n c.args.params.now.limit
+    c.in-Err-play.fault) batch cause
+    in
+    cause_moved _ _ _ _ _ _ (joined_same _ _ _ _ places c.in-Ok.ensures.items) batched

@@ -1,0 +1,12 @@
+pub mod ScheduledRuns
+pub mod Turns
+pub use Rattle.glb_core.specs.Counters
+pub use Rattle.glb_core.specs.Finish
+pub use Rattle.glb_core.specs.History
+pub use Rattle.glb_core.specs.Schedules
+pub use Rattle.glb_core.specs.Setups
+pub use Rattle.glb_core.specs.Sums
+pub use Rattle.glb_core.specs.World
+pub use Rattle.glb_cube.specs.Lines
+pub use Rattle.glb_stats.specs.Balances
+pub use Rattle.glb_tree.specs.Runs

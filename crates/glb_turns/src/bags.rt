@@ -1,0 +1,59 @@
+//! The bags with which the places start.
+ghost use Rattle.std.specs.Prelude.{◌≡◌, ◌<◌, ℕ, [], map, get_or, length, vec_len, All, IfOk, IsPermutation};
+ghost use Rattle.glb_core.specs.Sight.{IsMadeFor, sight};
+ghost use Rattle.glb_turns.specs.Turns.{HasSights};
+
+use glb_core::Seen;
+use glb_cube::Lines;
+use glb_laws::{Bag, NoMemory, Program};
+use std::alloc::Global;
+
+/// A bag with these items.
+pub(crate) fn bag_of<P: Program, B: Bag<P>>(
+    alloc: Global,
+    program: &P,
+    roots: Vec<P::Item>,
+) -> Result<B, NoMemory>
+    ensures items { IfOk result (λ bag. IsPermutation roots.items (B.items bag)) }
+    ensures fits { IfOk result (λ bag. B.fits bag program.now) }
+{
+    let mut bag = B::empty(alloc, program);
+    let mut left = roots;
+    while let Some(root) = left.pop() {
+        match bag.add(root) {
+            Ok(()) => {}
+            Err(_) => return Err(NoMemory),
+        }
+    }
+    Ok(bag)
+}
+
+/// A bag for each list, in order.
+pub(crate) fn bags_of<P: Program, B: Bag<P>>(
+    alloc: Global,
+    program: &P,
+    roots: Vec<Vec<P::Item>>,
+) -> Result<Vec<B>, NoMemory>
+    ensures many { IfOk result (λ bags. vec_len bags ≡ vec_len roots) }
+    ensures fits { IfOk result (λ bags. All (λ b. B.fits b program.now) bags.items) }
+    ensures items { IfOk result (λ bags. (p : ℕ) → IsPermutation
+        (get_or (map (λ v. v.items) roots.items) p []) (get_or (map B.items bags.items) p [])) }
+{
+    let mut bags = Vec::new(alloc);
+    for list in roots {
+        bags.push(bag_of::<P, B>(alloc, program, list)?)?;
+    }
+    Ok(bags)
+}
+
+/// What each place looks round with.
+pub(crate) fn sights_of(alloc: Global, lines: &Lines) -> Result<Vec<Seen>, NoMemory>
+    ensures many { IfOk result (λ seens. length seens.items ≡ lines.now.places) }
+    ensures sights { IfOk result (λ seens. HasSights lines.now seens.items) }
+{
+    let mut seens = Vec::new(alloc);
+    for place in 0..lines.places() {
+        seens.push(Seen::new(alloc, place, lines)?)?;
+    }
+    Ok(seens)
+}

@@ -1,0 +1,11 @@
+//! Places played by turns, on one thread.
+#![tactic(auto)]
+
+mod bags;
+mod driver;
+mod schedule;
+#[cfg(test)]
+mod tests;
+
+pub use driver::run_turns;
+pub use schedule::{Rounds, Schedule};

@@ -1,0 +1,39 @@
+//! Which place's turn it is.
+ghost use Rattle.std.specs.Prelude.{◌≡◌, ℕ, ◌+◌, ◌%◌, ◌^◌};
+
+/// Numbers without end, each for one turn.
+pub trait Schedule: Drop {
+    /// The number that it answers after so many further calls.
+    ghost will: { Self → ℕ → ℕ };
+
+    /// The number of the next turn.
+    fn turn(&mut self) -> u32
+        ensures number { result ≡ will self.old 0 }
+        ensures later { (k : ℕ) → will self.new k ≡ will self.old (k + 1) };
+}
+
+/// The numbers 0, 1, 2 and so on, and 0 again after the last one of 32 bits.
+#[derive(Debug, Drop)]
+pub struct Rounds {
+    next: u32,
+}
+
+impl Rounds {
+    pub fn new() -> Rounds
+        ensures { result.next ≡ 0 }
+    {
+        Rounds { next: 0 }
+    }
+}
+
+impl Schedule for Rounds {
+    ghost use Rattle.std.specs.Prelude.{◌+◌, ◌%◌, ◌^◌};
+
+    ghost will = { λ rounds k. (rounds.next + k) % 2 ^ 32 };
+
+    fn turn(&mut self) -> u32 {
+        let number = self.next;
+        self.next = number.wrapping_add(1);
+        number
+    }
+}
