@@ -18,4 +18,5 @@ pub record GraphLaws (c : Cube) : Type 0 where
   pub ins_rising : (q : ℕ) → IsStrictlyIncreasing (ins_of c q)
   pub ins_lines : (p q : ℕ) → has_number p (ins_of c q) ≡ true →
       (p < c.places) × (has_number q (outs_of c p) ≡ true)
-  pub lines_ins : (p q : ℕ) → p < c.places → has_number q (outs_of c p) ≡ true → has_number p (ins_of c q) ≡ true
+  pub lines_ins : (p q : ℕ) → p < c.places → has_number q (outs_of c p) ≡ true
+      → has_number p (ins_of c q) ≡ true

@@ -41,12 +41,14 @@ then_from p part rest = part ++ rest (last_of p part)
 -- in one dimension, down to the digit of `b` where that is the lower one
 abbrev pub descent_in : ℕ → ℕ → ℕ → ℕ → ℕ → List ℕ
 descent_in places base b unit p =
-    cond (nat_lt (digit base unit b) (digit base unit p)) (walk places base unit (digit base unit b) p base) []
+    cond (nat_lt (digit base unit b) (digit base unit p))
+    (walk places base unit (digit base unit b) p base) []
 
 -- in one dimension, up to the digit of `b` where that is the higher one
 abbrev pub ascent_in : ℕ → ℕ → ℕ → ℕ → ℕ → List ℕ
 ascent_in places base b unit p =
-    cond (nat_lt (digit base unit p) (digit base unit b)) (walk places base unit (digit base unit b) p base) []
+    cond (nat_lt (digit base unit p) (digit base unit b))
+    (walk places base unit (digit base unit b) p base) []
 
 -- down in so many dimensions, from the one with this unit on
 unfoldable pub descent : ℕ → ℕ → ℕ → ℕ → ℕ → ℕ → List ℕ

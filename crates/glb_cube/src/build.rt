@@ -78,7 +78,8 @@ fn all_sources(alloc: Global, outs: &[Vec<u32>], shape: Shape) -> Result<Vec<Vec
     requires outs { map (λ w. w.items) outs.now ≡
         map (λ p. targets shape.places shape.base 1 shape.dimension p) (range_with_len 0 shape.places) }
     ensures { IfOk result (λ v. map (λ w. w.items) v.items ≡
-        map (λ p. ins_of (cube_of shape.places shape.base shape.dimension) p) (range_with_len 0 shape.places)) }
+        map (λ p. ins_of (cube_of shape.places shape.base shape.dimension) p)
+        (range_with_len 0 shape.places)) }
 {
     let mut all = Vec::new(alloc);
     for place in 0..shape.places {

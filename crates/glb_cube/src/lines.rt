@@ -77,7 +77,8 @@ impl Lines {
         ensures sources { result.now ≡ ins_of self.now place }
         ensures few { length result.now ≤ self.now.dimension }
         ensures rising { IsStrictlyIncreasing result.now }
-        ensures exact { (p : ℕ) → (has_number p result.now ≡ true) ↔ ((p < self.now.places) × IsLine self.now p place) }
+        ensures exact { (p : ℕ) → (has_number p result.now ≡ true)
+            ↔ ((p < self.now.places) × IsLine self.now p place) }
     {
         let rows = self.ins.as_slice();
         rows[place as usize].as_slice()

@@ -12,23 +12,27 @@ use Rattle.glb_graph.specs.Spots.{spots}
 use Rattle.glb_graph.specs.Distances.{capped, any_of, is_walk, or_else, first_below, distance, one_for, steps_for, reached_of, sum_of, greatest_of, worth}
 
 -- an element that passes the test
-any_of-contains : (test : ℕ → Bool) (xs : List ℕ) (k : ℕ) (x : ℕ) → k < length xs → get_or xs k x ≡ x → test x ≡ true → any_of test xs ≡ true
+any_of-contains : (test : ℕ → Bool) (xs : List ℕ) (k : ℕ) (x : ℕ) → k < length xs → get_or xs k x ≡ x
+    → test x ≡ true → any_of test xs ≡ true
 unfolding any_of
 any_of-contains test [] k x l e y = absurd (omega arith)
 any_of-contains test (z ∷ xs) zero x l e y = rw (ap test e ∙ y)
-any_of-contains test (z ∷ xs) (suc k) x l e y = rw (any_of-contains test xs k x (omega arith) e y) (part (test z))
+any_of-contains test (z ∷ xs) (suc k) x l e y =
+    rw (any_of-contains test xs k x (omega arith) e y) (part (test z))
   where
     part : (b : Bool) → cond b true true ≡ true
     part true = refl
     part false = refl
 
 -- where some element passes the test, here is one
-contains-any_of : (test : ℕ → Bool) (xs : List ℕ) → any_of test xs ≡ true → (x : ℕ) × Contains xs x × (test x ≡ true)
+contains-any_of : (test : ℕ → Bool) (xs : List ℕ) → any_of test xs ≡ true → (x : ℕ) × Contains xs x
+    × (test x ≡ true)
 unfolding any_of
 contains-any_of test [] e = absurd (cc)
 contains-any_of test (z ∷ xs) e = part (test z) refl (contains-any_of test xs) e
   where
-    part : (b : Bool) → test z ≡ b → (any_of test xs ≡ true → (x : ℕ) × Contains xs x × (test x ≡ true)) → cond b true (any_of test xs) ≡ true → (x : ℕ) × Contains (z ∷ xs) x × (test x ≡ true)
+    part : (b : Bool) → test z ≡ b → (any_of test xs ≡ true → (x : ℕ) × Contains xs x × (test x ≡ true))
+        → cond b true (any_of test xs) ≡ true → (x : ℕ) × Contains (z ∷ xs) x × (test x ≡ true)
     part true t below e = (z, (0, omega arith, refl), t)
     part false t below e = let r = below e in (r.0, (suc r.1.0, let l = r.1.1 in omega arith, r.1.2), r.2)
 
@@ -36,13 +40,15 @@ contains-any_of test (z ∷ xs) e = part (test z) refl (contains-any_of test xs)
 pub walk-is_walk : (rows : List (List ℕ)) (s t n : ℕ) → Walk rows s t n → is_walk rows s t n ≡ true
 unfolding is_walk
 walk-is_walk rows s t zero w = eq-eqb s t w
-walk-is_walk rows s t (suc n) (m, (k, l, e), w) = any_of-contains (λ m. is_walk rows m t n) (targets_of rows s) k m l e (walk-is_walk rows m t n w)
+walk-is_walk rows s t (suc n) (m, (k, l, e), w) =
+    any_of-contains (λ m. is_walk rows m t n) (targets_of rows s) k m l e (walk-is_walk rows m t n w)
 
 -- what the test finds is a walk
 pub is_walk-walk : (rows : List (List ℕ)) (s t n : ℕ) → is_walk rows s t n ≡ true → Walk rows s t n
 unfolding is_walk
 is_walk-walk rows s t zero e = eqb-true s t e
-is_walk-walk rows s t (suc n) e = let r = contains-any_of (λ m. is_walk rows m t n) (targets_of rows s) e in (r.0, r.1, is_walk-walk rows r.0 t n r.2)
+is_walk-walk rows s t (suc n) e = let r = contains-any_of (λ m. is_walk rows m t n) (targets_of rows s) e
+    in (r.0, r.1, is_walk-walk rows r.0 t n r.2)
 
 -- what is not true is false
 not_true : (b : Bool) → (b ≡ true → ⊥) → b ≡ false
@@ -50,32 +56,41 @@ not_true true f = absurd (f refl)
 not_true false f = refl
 
 -- where no number passes, there is no first one
-pub first_below-none : (test : ℕ → Bool) (n : ℕ) → ((k : ℕ) → k < n → test k ≡ false) → first_below test n ≡ None
+pub first_below-none : (test : ℕ → Bool) (n : ℕ) → ((k : ℕ) → k < n → test k ≡ false)
+    → first_below test n ≡ None
 unfolding first_below or_else
 first_below-none test zero f = refl
 first_below-none test (suc n) f = rw (first_below-none test n (λ k l. f k (omega arith)), f n (omega arith))
 
 -- a number that passes after others that do not is the first
-pub first_below-some : (test : ℕ → Bool) (n d : ℕ) → d < n → ((k : ℕ) → k < d → test k ≡ false) → test d ≡ true → first_below test n ≡ Some d
+pub first_below-some : (test : ℕ → Bool) (n d : ℕ) → d < n → ((k : ℕ) → k < d → test k ≡ false)
+    → test d ≡ true → first_below test n ≡ Some d
 unfolding first_below or_else
 first_below-some test zero d l f e = absurd (omega arith)
 first_below-some test (suc n) d l f e = elim (cases_eq d n) [
-  | inl same ↦ rw (first_below-none test n (λ k a. f k (omega arith)), ap test (sym same) ∙ e) (ap Some (sym same))
+  | inl same ↦ rw (first_below-none test n (λ k a. f k (omega arith)), ap test (sym same) ∙ e)
+      (ap Some (sym same))
   | inr other ↦ rw (first_below-some test n d (omega arith) f e)
 ]
 
 -- a table shows the distances
-pub shown_is : (rows : List (List ℕ)) (s : ℕ) (table : List ℕ) → IsTable rows s table → (t : ℕ) → t < length rows → shown table t ≡ distance rows s t
+pub shown_is : (rows : List (List ℕ)) (s : ℕ) (table : List ℕ) → IsTable rows s table → (t : ℕ)
+    → t < length rows → shown table t ≡ distance rows s t
 unfolding shown distance
 shown_is rows s table T t l = elim (cases_eq (get_or table t 0) unseen) [
-  | inl e ↦ rw (eq-eqb _ _ e) (sym (first_below-none (is_walk rows s t) (length rows) (λ k a. not_true _ (λ w. T.not_reached t l e k (is_walk-walk rows s t k w)))))
-  | inr ne ↦ rw (ne_eqb _ _ ne) (sym (first_below-some (is_walk rows s t) (length rows) (get_or table t 0) (T.bounded t l ne)
-      (λ k a. not_true _ (λ w. let least = (T.reached t l ne).1 k (is_walk-walk rows s t k w) in absurd (omega arith)))
+  | inl e ↦ rw (eq-eqb _ _ e)
+      (sym (first_below-none (is_walk rows s t) (length rows)
+      (λ k a. not_true _ (λ w. T.not_reached t l e k (is_walk-walk rows s t k w)))))
+  | inr ne ↦ rw (ne_eqb _ _ ne)
+      (sym (first_below-some (is_walk rows s t) (length rows) (get_or table t 0) (T.bounded t l ne)
+      (λ k a. not_true _ (λ w. let least = (T.reached t l ne).1 k (is_walk-walk rows s t k w)
+      in absurd (omega arith)))
       (walk-is_walk rows s t _ (T.reached t l ne).0)))
 ]
 
 -- equal distances, as many reached vertices
-reached_same : (f g : ℕ → Option ℕ) (s n : ℕ) → ((t : ℕ) → t < n → f t ≡ g t) → reached_of f s n ≡ reached_of g s n
+reached_same : (f g : ℕ → Option ℕ) (s n : ℕ) → ((t : ℕ) → t < n → f t ≡ g t)
+    → reached_of f s n ≡ reached_of g s n
 unfolding reached_of
 reached_same f g s zero e = refl
 reached_same f g s (suc n) e = rw (reached_same f g s n (λ t l. e t (omega arith)), e n (omega arith))
@@ -87,7 +102,8 @@ sum_same f g zero e = refl
 sum_same f g (suc n) e = rw (sum_same f g n (λ t l. e t (omega arith)), e n (omega arith))
 
 -- equal distances, one greatest
-greatest_same : (f g : ℕ → Option ℕ) (n : ℕ) → ((t : ℕ) → t < n → f t ≡ g t) → greatest_of f n ≡ greatest_of g n
+greatest_same : (f g : ℕ → Option ℕ) (n : ℕ) → ((t : ℕ) → t < n → f t ≡ g t)
+    → greatest_of f n ≡ greatest_of g n
 unfolding greatest_of
 greatest_same f g zero e = refl
 greatest_same f g (suc n) e = rw (greatest_same f g n (λ t l. e t (omega arith)), e n (omega arith))
@@ -97,8 +113,10 @@ worth_same : (f g : ℕ → Option ℕ) (s n : ℕ) → ((t : ℕ) → t < n →
 worth_same f g s n e = rw (reached_same f g s n e, sum_same f g n e, greatest_same f g n e)
 
 -- what the table is worth is what the vertex is worth
-pub table_worth : (rows : List (List ℕ)) (s : ℕ) (table : List ℕ) → IsTable rows s table → worth (shown table) s (length table) ≡ worth (distance rows s) s (length rows)
-table_worth rows s table T = rw T.same_length (worth_same (shown table) (distance rows s) s (length rows) (shown_is rows s table T))
+pub table_worth : (rows : List (List ℕ)) (s : ℕ) (table : List ℕ) → IsTable rows s table
+    → worth (shown table) s (length table) ≡ worth (distance rows s) s (length rows)
+table_worth rows s table T =
+    rw T.same_length (worth_same (shown table) (distance rows s) s (length rows) (shown_is rows s table T))
 
 -- a tally of the vertices below i
 pub record IsTally (table : List ℕ) (s i reached sum greatest : ℕ) : Type 0 where
@@ -112,10 +130,19 @@ pub record IsTally (table : List ℕ) (s i reached sum greatest : ℕ) : Type 0 
 -- at first nothing is counted
 pub tally_none : (table : List ℕ) (s : ℕ) → IsTally table s 0 0 0 0
 unfolding reached_of sum_of greatest_of
-tally_none table s = record { reached_is = refl; sum_is = refl; greatest_is = refl; few = omega arith; low = omega arith; small = omega arith }
+tally_none table s =
+    record {
+      reached_is = refl;
+      sum_is = refl;
+      greatest_is = refl;
+      few = omega arith;
+      low = omega arith;
+      small = omega arith;
+    }
 
 -- a vertex that is not reached
-pub tally_skip : (table : List ℕ) (s i reached sum greatest : ℕ) → IsTally table s i reached sum greatest → get_or table i 0 ≡ unseen → IsTally table s (i + 1) reached sum greatest
+pub tally_skip : (table : List ℕ) (s i reached sum greatest : ℕ) → IsTally table s i reached sum greatest
+    → get_or table i 0 ≡ unseen → IsTally table s (i + 1) reached sum greatest
 unfolding shown reached_of sum_of greatest_of one_for steps_for
 tally_skip table s i reached sum greatest T e =
     let b : nat_eq (get_or table i 0) unseen ≡ true = eq-eqb _ _ e in
@@ -129,7 +156,10 @@ tally_skip table s i reached sum greatest T e =
     }
 
 -- a vertex that is reached
-pub tally_take : (table : List ℕ) (s i reached sum greatest d more : ℕ) → IsTally table s i reached sum greatest → d ≡ get_or table i 0 → d ≢ unseen → d < 20000 → more ≡ cond (nat_eq i s) 0 1 → more ≤ 1 → IsTally table s (i + 1) (reached + more) (sum + d) (max greatest d)
+pub tally_take : (table : List ℕ) (s i reached sum greatest d more : ℕ)
+    → IsTally table s i reached sum greatest → d ≡ get_or table i 0 → d ≢ unseen → d < 20000
+    → more ≡ cond (nat_eq i s) 0 1 → more ≤ 1
+    → IsTally table s (i + 1) (reached + more) (sum + d) (max greatest d)
 unfolding shown reached_of sum_of greatest_of one_for steps_for
 tally_take table s i reached sum greatest d more T e ne l m one =
     let b : nat_eq (get_or table i 0) unseen ≡ false = ne_eqb _ _ (λ x. ne (e ∙ x)) in
@@ -143,8 +173,11 @@ tally_take table s i reached sum greatest d more T e ne l m one =
     }
 
 -- the same with the three numbers as the code has them
-pub tally_took : (table : List ℕ) (s i reached sum greatest d more reached' sum' greatest' : ℕ) → IsTally table s i reached sum greatest → d ≡ get_or table i 0 → d ≢ unseen → d < 20000 → more ≡ cond (nat_eq i s) 0 1 → more ≤ 1 →
-    reached' ≡ reached + more → sum' ≡ sum + d → greatest' ≡ max greatest d → IsTally table s (i + 1) reached' sum' greatest'
+pub tally_took : (table : List ℕ) (s i reached sum greatest d more reached' sum' greatest' : ℕ)
+    → IsTally table s i reached sum greatest → d ≡ get_or table i 0 → d ≢ unseen → d < 20000
+    → more ≡ cond (nat_eq i s) 0 1 → more ≤ 1 →
+    reached' ≡ reached + more → sum' ≡ sum + d → greatest' ≡ max greatest d
+    → IsTally table s (i + 1) reached' sum' greatest'
 tally_took table s i reached sum greatest d more reached' sum' greatest' T e ne l m one p q r =
     let U = tally_take table s i reached sum greatest d more T e ne l m one in
     record {
@@ -157,7 +190,9 @@ tally_took table s i reached sum greatest d more reached' sum' greatest' T e ne 
     }
 
 -- the same of a vertex that is not reached
-pub tally_skipped : (table : List ℕ) (s i reached sum greatest reached' sum' greatest' : ℕ) → IsTally table s i reached sum greatest → get_or table i 0 ≡ unseen → reached' ≡ reached → sum' ≡ sum → greatest' ≡ greatest → IsTally table s (i + 1) reached' sum' greatest'
+pub tally_skipped : (table : List ℕ) (s i reached sum greatest reached' sum' greatest' : ℕ)
+    → IsTally table s i reached sum greatest → get_or table i 0 ≡ unseen → reached' ≡ reached → sum' ≡ sum
+    → greatest' ≡ greatest → IsTally table s (i + 1) reached' sum' greatest'
 tally_skipped table s i reached sum greatest reached' sum' greatest' T e p q r =
     let U = tally_skip table s i reached sum greatest T e in
     record {
@@ -170,16 +205,32 @@ tally_skipped table s i reached sum greatest reached' sum' greatest' T e p q r =
     }
 
 -- at the end the three numbers are what the table is worth
-pub tally_worth : (table : List ℕ) (s i n reached sum greatest' : ℕ) → IsTally table s i reached sum greatest' → i ≡ n → n ≤ 20000 → both (sat_sum reached) (both (sat_sum sum) (greatest greatest')) ≡ worth (shown table) s n
+pub tally_worth : (table : List ℕ) (s i n reached sum greatest' : ℕ)
+    → IsTally table s i reached sum greatest' → i ≡ n → n ≤ 20000
+    → both (sat_sum reached) (both (sat_sum sum) (greatest greatest')) ≡ worth (shown table) s n
 tally_worth table s i n reached sum greatest' T e few =
-    let a : reached ≡ capped (reached_of (shown table) s n) = omega (arith, T.reached_is, T.few, ap (reached_of (shown table) s) e) in
-    let b : sum ≡ capped (sum_of (shown table) n) = omega (arith, T.sum_is, T.low, ap (sum_of (shown table)) e) in
-    let d : greatest' ≡ capped (greatest_of (shown table) n) = omega (arith, T.greatest_is, T.small, ap (greatest_of (shown table)) e) in
-    ap (λ x. both (sat_sum x) (both (sat_sum sum) (greatest greatest'))) a ∙ ap (λ x. both (sat_sum (capped (reached_of (shown table) s n))) (both (sat_sum x) (greatest greatest'))) b ∙ ap (λ x. both (sat_sum (capped (reached_of (shown table) s n))) (both (sat_sum (capped (sum_of (shown table) n))) (greatest x))) d
+    let a : reached ≡ capped (reached_of (shown table) s n) =
+    omega (arith, T.reached_is, T.few, ap (reached_of (shown table) s) e) in
+    let b : sum ≡ capped (sum_of (shown table) n) =
+    omega (arith, T.sum_is, T.low, ap (sum_of (shown table)) e) in
+    let d : greatest' ≡ capped (greatest_of (shown table) n) =
+    omega (arith, T.greatest_is, T.small, ap (greatest_of (shown table)) e) in
+    ap (λ x. both (sat_sum x) (both (sat_sum sum) (greatest greatest'))) a
+    ∙ ap (λ x. both (sat_sum (capped (reached_of (shown table) s n)))
+    (both (sat_sum x) (greatest greatest'))) b
+    ∙ ap (λ x. both (sat_sum (capped (reached_of (shown table) s n)))
+    (both (sat_sum (capped (sum_of (shown table) n))) (greatest x))) d
 
 -- each entry of a table is the mark or small
-pub table_small : (rows : List (List ℕ)) (s : ℕ) (table : List ℕ) → IsTable rows s table → length table ≤ 20000 → (t : ℕ) → t < length table → (get_or table t 0 ≡ unseen) ⊎ (get_or table t 0 < 20000)
-table_small rows s table T few t l = elim (cases_eq (get_or table t 0) unseen) [ inl e ↦ inl e | inr ne ↦ let b = T.bounded t (omega (arith, T.same_length)) ne in inr (omega (arith, T.same_length)) ]
+pub table_small : (rows : List (List ℕ)) (s : ℕ) (table : List ℕ) → IsTable rows s table
+    → length table ≤ 20000 → (t : ℕ) → t < length table → (get_or table t 0 ≡ unseen)
+    ⊎ (get_or table t 0 < 20000)
+table_small rows s table T few t l =
+    elim (cases_eq (get_or table t 0) unseen) [
+      | inl e ↦ inl e
+      | inr ne ↦ let b = T.bounded t (omega (arith, T.same_length)) ne
+          in inr (omega (arith, T.same_length))
+    ]
 
 -- what is not the mark is small
 pub not_mark : (d : ℕ) → (d ≡ unseen) ⊎ (d < 20000) → (d ≡ unseen → ⊥) → d < 20000
@@ -192,9 +243,11 @@ unfolding spots
 spots_none xs = sym (append-nil xs)
 
 -- one more vertex is appended
-pub spots_more : (xs ys zs : List Spot) (n : ℕ) → ys ≡ xs ++ spots n → zs ≡ ys ++ Vertex n ∷ [] → zs ≡ xs ++ spots (n + 1)
+pub spots_more : (xs ys zs : List Spot) (n : ℕ) → ys ≡ xs ++ spots n → zs ≡ ys ++ Vertex n ∷ [] → zs ≡ xs
+    ++ spots (n + 1)
 unfolding spots
-spots_more xs ys zs n p q = rw add-one (q ∙ ap (λ y. y ++ Vertex n ∷ []) p ∙ append_assoc xs (spots n) (Vertex n ∷ []))
+spots_more xs ys zs n p q =
+    rw add-one (q ∙ ap (λ y. y ++ Vertex n ∷ []) p ∙ append_assoc xs (spots n) (Vertex n ∷ []))
 
 -- there are as many items as vertices
 pub length-spots : (n : ℕ) → length (spots n) ≡ n

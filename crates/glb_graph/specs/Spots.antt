@@ -36,7 +36,8 @@ Fits v = (v.0.0 < 2 ^ 64) × ((v.1.0.0 < 2 ^ 64) × (v.1.1.0 < 2 ^ 64))
 
 pub spot_value_proper : (rows : List (List ℕ)) (x : Spot) → Fits (spot_value rows x)
 spot_value_proper rows Root = (omega arith, (omega arith, omega arith))
-spot_value_proper rows (Vertex s) = either (nat_lt s (length rows)) (worth (distance rows s) s (length rows))
+spot_value_proper rows (Vertex s) =
+    either (nat_lt s (length rows)) (worth (distance rows s) s (length rows))
     (omega arith, (omega arith, omega arith))
   where
     either : (b : Bool) (v : Both SatSum (Both SatSum Greatest)) → Fits v → Fits (cond b v no_worth)

@@ -21,15 +21,18 @@ next columns c = columns ++ c ∷ []
 free_list : ℕ → List ℕ → List ℕ
 free_list n columns = filter (is_free columns) (range_with_len 0 n)
 
-below_more : (n : ℕ) (columns : List ℕ) → length columns < n → boards_below n columns ≡ map (next columns) (free_list n columns)
+below_more : (n : ℕ) (columns : List ℕ) → length columns < n
+    → boards_below n columns ≡ map (next columns) (free_list n columns)
 unfolding boards_below free_list
 below_more n columns lt = cond-true (nat_lt (length columns) n) _ _ (lt-ltb (length columns) n lt)
 
 -- they are read off the mask of the free columns
-pub below_mask : (n : ℕ) (columns : List ℕ) (mask : ℕ) → length columns < n → n ≤ 16 → ((c : ℕ) → (bit_at mask c == 1) ≡ (nat_lt c n && is_free columns c))
+pub below_mask : (n : ℕ) (columns : List ℕ) (mask : ℕ) → length columns < n → n ≤ 16
+    → ((c : ℕ) → (bit_at mask c == 1) ≡ (nat_lt c n && is_free columns c))
     → boards_below n columns ≡ map (next columns) (columns_in mask)
 unfolding free_list
-below_mask n columns mask lt le says = below_more n columns lt ∙ ap (map (next columns)) (sym (columns_below (is_free columns) mask n le says))
+below_mask n columns mask lt le says = below_more n columns lt
+    ∙ ap (map (next columns)) (sym (columns_below (is_free columns) mask n le says))
 
 pub below_none : (n : ℕ) (columns : List ℕ) → n ≤ length columns → boards_below n columns ≡ []
 unfolding boards_below
@@ -42,19 +45,25 @@ record IsChoice (n : ℕ) (columns : List ℕ) (c : ℕ) : Type 0 where
 free_choices : (n : ℕ) (columns : List ℕ) → All (IsChoice n columns) (free_list n columns)
 unfolding free_list
 free_choices n columns k d lt = record {
-  below = All-filter (is_free columns) (λ c. c < n) (range_with_len 0 n) (All-range (λ c. c < n) 0 n (λ j low high. omega arith)) k d lt;
+  below = All-filter (is_free columns) (λ c. c < n) (range_with_len 0 n)
+      (All-range (λ c. c < n) 0 n (λ j low high. omega arith)) k d lt;
   free = filter_passes (is_free columns) (range_with_len 0 n) k d lt;
 }
 
-choice_contained : (n : ℕ) (columns : List ℕ) (c : ℕ) → c < n → is_free columns c ≡ true → Contains (free_list n columns) c
+choice_contained : (n : ℕ) (columns : List ℕ) (c : ℕ) → c < n → is_free columns c ≡ true
+    → Contains (free_list n columns) c
 unfolding free_list
-choice_contained n columns c lt free = Contains-filter (is_free columns) (range_with_len 0 n) c free (Contains-range 0 n c (omega arith) (omega arith))
+choice_contained n columns c lt free =
+    Contains-filter (is_free columns) (range_with_len 0 n) c free
+    (Contains-range 0 n c (omega arith) (omega arith))
 
 choices_differ : (n : ℕ) (columns : List ℕ) → AllPairs (λ x y. x ≢ y) (free_list n columns)
 unfolding free_list
-choices_differ n columns = AllPairs-filter (λ x y. x ≢ y) (is_free columns) (range_with_len 0 n) (AllPairs-range 0 n)
+choices_differ n columns =
+    AllPairs-filter (λ x y. x ≢ y) (is_free columns) (range_with_len 0 n) (AllPairs-range 0 n)
 
-board_push : (n : ℕ) (columns : List ℕ) (c : ℕ) → length columns < n → IsBoard n columns → IsChoice n columns c → IsBoard n (next columns c)
+board_push : (n : ℕ) (columns : List ℕ) (c : ℕ) → length columns < n → IsBoard n columns
+    → IsChoice n columns c → IsBoard n (next columns c)
 board_push n columns c lt board choice = record {
   safe = safe_push columns c board.safe choice.free;
   below = All-push (λ x. x < n) columns c board.below choice.below;
@@ -62,22 +71,30 @@ board_push n columns c lt board choice = record {
 }
 
 -- how many columns are free
-place_of : (columns : List ℕ) (i : ℕ) → i < length columns → (d : ℕ) → get_or columns i d ≡ get_or columns i 0
+place_of : (columns : List ℕ) (i : ℕ) → i < length columns → (d : ℕ)
+    → get_or columns i d ≡ get_or columns i 0
 place_of columns i lt d = get_or_default columns i d 0 lt
 
 safe_differ : (columns : List ℕ) → IsSafe columns → AllPairs (λ x y. x ≢ y) columns
 safe_differ columns safe i j d lt within =
-    subst (λ a. a ≢ get_or columns j d) (sym (place_of columns i (omega arith) d)) (subst (λ b. get_or columns i 0 ≢ b) (sym (place_of columns j within d)) (safe i j lt within).0)
+    subst (λ a. a ≢ get_or columns j d) (sym (place_of columns i (omega arith) d))
+    (subst (λ b. get_or columns i 0 ≢ b) (sym (place_of columns j within d)) (safe i j lt within).0)
 
 free_differ : (n : ℕ) (columns : List ℕ) → All (λ x. All (λ y. x ≢ y) (free_list n columns)) columns
 free_differ n columns i d lt j e within =
     let choice = free_choices n columns j e within in
-    subst (λ a. a ≢ get_or (free_list n columns) j e) (sym (place_of columns i lt d)) (apart_where_free columns (get_or (free_list n columns) j e) choice.free i lt).0
+    subst (λ a. a ≢ get_or (free_list n columns) j e) (sym (place_of columns i lt d))
+    (apart_where_free columns (get_or (free_list n columns) j e) choice.free i lt).0
 
-few_free : (n : ℕ) (columns : List ℕ) → IsBoard n columns → length columns + length (free_list n columns) ≤ n
+few_free : (n : ℕ) (columns : List ℕ) → IsBoard n columns
+    → length columns + length (free_list n columns) ≤ n
 few_free n columns board =
-    let all = different_few n (columns ++ free_list n columns) (AllPairs-append (λ x y. x ≢ y) columns (free_list n columns) (safe_differ columns board.safe) (choices_differ n columns) (free_differ n columns))
-    (All-append (λ x. x < n) columns (free_list n columns) board.below (All-weaker (IsChoice n columns) (λ x. x < n) (λ x h. h.below) (free_list n columns) (free_choices n columns)))
+    let all = different_few n (columns ++ free_list n columns)
+    (AllPairs-append (λ x y. x ≢ y) columns (free_list n columns) (safe_differ columns board.safe)
+    (choices_differ n columns) (free_differ n columns))
+    (All-append (λ x. x < n) columns (free_list n columns) board.below
+    (All-weaker (IsChoice n columns) (λ x. x < n) (λ x h. h.below) (free_list n columns)
+    (free_choices n columns)))
     in
     omega (arith, length-append columns (free_list n columns))
 
@@ -93,13 +110,17 @@ module _ (n : ℕ) where
   unfolding below tree
   below_zero columns = refl
 
-  below_suc : (columns : List ℕ) (depth : ℕ) → length columns < n → below columns (suc depth) ≡ columns ∷ level columns (free_list n columns) depth
+  below_suc : (columns : List ℕ) (depth : ℕ) → length columns < n
+      → below columns (suc depth) ≡ columns ∷ level columns (free_list n columns) depth
   unfolding below tree
-  below_suc columns depth lt = ap (λ l. columns ∷ flat_map (λ b. tree (boards_below n) b depth) l) (below_more n columns lt)
+  below_suc columns depth lt =
+      ap (λ l. columns ∷ flat_map (λ b. tree (boards_below n) b depth) l) (below_more n columns lt)
 
-  below_full : (columns : List ℕ) (depth : ℕ) → n ≤ length columns → below columns (suc depth) ≡ columns ∷ []
+  below_full : (columns : List ℕ) (depth : ℕ) → n ≤ length columns
+      → below columns (suc depth) ≡ columns ∷ []
   unfolding below tree
-  below_full columns depth ge = ap (λ l. columns ∷ flat_map (λ b. tree (boards_below n) b depth) l) (below_none n columns ge)
+  below_full columns depth ge =
+      ap (λ l. columns ∷ flat_map (λ b. tree (boards_below n) b depth) l) (below_none n columns ge)
 
   -- each begins with the columns of the root
   record IsUnder (columns board : List ℕ) : Type 0 where
@@ -109,13 +130,19 @@ module _ (n : ℕ) where
   under_root : (columns : List ℕ) → IsUnder columns columns
   under_root columns = record { more = []; is = sym (append-nil columns) }
 
-  under_next : (columns : List ℕ) (c : ℕ) (board : List ℕ) → IsUnder (next columns c) board → IsUnder columns board
-  under_next columns c board u = record { more = c ∷ u.more; is = u.is ∙ append_assoc columns (c ∷ []) u.more }
+  under_next : (columns : List ℕ) (c : ℕ) (board : List ℕ) → IsUnder (next columns c) board
+      → IsUnder columns board
+  under_next columns c board u =
+      record { more = c ∷ u.more; is = u.is ∙ append_assoc columns (c ∷ []) u.more }
 
-  level_all : (P : List ℕ → Type 0) (columns choices : List ℕ) (depth : ℕ) → ((c : ℕ) → IsChoice n columns c → All P (below (next columns c) depth)) → All (IsChoice n columns) choices → All P (level columns choices depth)
+  level_all : (P : List ℕ → Type 0) (columns choices : List ℕ) (depth : ℕ)
+      → ((c : ℕ) → IsChoice n columns c → All P (below (next columns c) depth))
+      → All (IsChoice n columns) choices → All P (level columns choices depth)
   level_all P columns [] depth each all = All-nil P
   level_all P columns (c ∷ choices) depth each all =
-      All-append P (below (next columns c) depth) (level columns choices depth) (each c (All-head (IsChoice n columns) c choices all)) (level_all P columns choices depth each (All-tail (IsChoice n columns) c choices all))
+      All-append P (below (next columns c) depth) (level columns choices depth)
+      (each c (All-head (IsChoice n columns) c choices all))
+      (level_all P columns choices depth each (All-tail (IsChoice n columns) c choices all))
 
   under : (depth : ℕ) (columns : List ℕ) → All (IsUnder columns) (below columns depth)
   under zero columns = subst (All (IsUnder columns)) (sym (below_zero columns)) (All-nil (IsUnder columns))
@@ -123,10 +150,14 @@ module _ (n : ℕ) where
       elim (cases_lt (length columns) n) [
         | inl lt ↦
             subst (All (IsUnder columns)) (sym (below_suc columns depth lt))
-            (All-cons (IsUnder columns) columns (level columns (free_list n columns) depth) (under_root columns)
-            (level_all (IsUnder columns) columns (free_list n columns) depth (λ c _. All-weaker (IsUnder (next columns c)) (IsUnder columns) (under_next columns c) (below (next columns c) depth) (under depth (next columns c))) (free_choices n columns)))
+            (All-cons (IsUnder columns) columns (level columns (free_list n columns) depth)
+            (under_root columns)
+            (level_all (IsUnder columns) columns (free_list n columns) depth
+            (λ c _. All-weaker (IsUnder (next columns c)) (IsUnder columns) (under_next columns c)
+            (below (next columns c) depth) (under depth (next columns c))) (free_choices n columns)))
         | inr ge ↦
-            subst (All (IsUnder columns)) (sym (below_full columns depth ge)) (All-cons (IsUnder columns) columns [] (under_root columns) (All-nil (IsUnder columns)))
+            subst (All (IsUnder columns)) (sym (below_full columns depth ge))
+            (All-cons (IsUnder columns) columns [] (under_root columns) (All-nil (IsUnder columns)))
       ]
 
   sound : (depth : ℕ) (columns : List ℕ) → IsBoard n columns → All (IsBoard n) (below columns depth)
@@ -136,76 +167,118 @@ module _ (n : ℕ) where
         | inl lt ↦
             subst (All (IsBoard n)) (sym (below_suc columns depth lt))
             (All-cons (IsBoard n) columns (level columns (free_list n columns) depth) board
-            (level_all (IsBoard n) columns (free_list n columns) depth (λ c choice. sound depth (next columns c) (board_push n columns c lt board choice)) (free_choices n columns)))
+            (level_all (IsBoard n) columns (free_list n columns) depth
+            (λ c choice. sound depth (next columns c) (board_push n columns c lt board choice))
+            (free_choices n columns)))
         | inr ge ↦
-            subst (All (IsBoard n)) (sym (below_full columns depth ge)) (All-cons (IsBoard n) columns [] board (All-nil (IsBoard n)))
+            subst (All (IsBoard n)) (sym (below_full columns depth ge))
+            (All-cons (IsBoard n) columns [] board (All-nil (IsBoard n)))
       ]
 
   first_in : (columns : List ℕ) (depth : ℕ) → Contains (below columns (suc depth)) columns
   first_in columns depth =
       elim (cases_lt (length columns) n) [
-        | inl lt ↦ subst (λ l. Contains l columns) (sym (below_suc columns depth lt)) (Contains-head columns (level columns (free_list n columns) depth))
-        | inr ge ↦ subst (λ l. Contains l columns) (sym (below_full columns depth ge)) (Contains-head columns [])
+        | inl lt ↦ subst (λ l. Contains l columns) (sym (below_suc columns depth lt))
+            (Contains-head columns (level columns (free_list n columns) depth))
+        | inr ge ↦ subst (λ l. Contains l columns) (sym (below_full columns depth ge))
+            (Contains-head columns [])
       ]
 
-  complete : (depth : ℕ) (columns more : List ℕ) → IsBoard n (columns ++ more) → length more < depth → Contains (below columns depth) (columns ++ more)
+  complete : (depth : ℕ) (columns more : List ℕ) → IsBoard n (columns ++ more) → length more < depth
+      → Contains (below columns depth) (columns ++ more)
   complete zero columns more board deep = absurd (omega arith)
-  complete (suc depth) columns [] board deep = subst (Contains (below columns (suc depth))) (sym (append-nil columns)) (first_in columns depth)
+  complete (suc depth) columns [] board deep =
+      subst (Contains (below columns (suc depth))) (sym (append-nil columns)) (first_in columns depth)
   complete (suc depth) columns (c ∷ more) board deep =
       let e : next columns c ++ more ≡ columns ++ c ∷ more = append_assoc columns (c ∷ []) more in
       let board' = subst (IsBoard n) (sym e) board in
       let size = length-append columns (c ∷ more) in
       let lt : length columns < n = omega (arith, board.rows) in
       let free = free_last columns c (safe_front (next columns c) more board'.safe) in
-      let small : c < n = subst (λ v. v < n) (get_or_at columns c more 0 (length columns) refl) (board.below (length columns) 0 (omega arith)) in
-      let inside = Contains-flat_map (λ b. below b depth) (map (next columns) (free_list n columns)) (next columns c) (columns ++ c ∷ more) (Contains-map (next columns) (free_list n columns) c (choice_contained n columns c small free))
-      (subst (Contains (below (next columns c) depth)) e (complete depth (next columns c) more board' (omega arith)))
+      let small : c < n =
+      subst (λ v. v < n) (get_or_at columns c more 0 (length columns) refl)
+      (board.below (length columns) 0 (omega arith)) in
+      let inside = Contains-flat_map (λ b. below b depth) (map (next columns) (free_list n columns))
+      (next columns c) (columns ++ c ∷ more)
+      (Contains-map (next columns) (free_list n columns) c (choice_contained n columns c small free))
+      (subst (Contains (below (next columns c) depth)) e
+      (complete depth (next columns c) more board' (omega arith)))
       in
-      subst (λ l. Contains l (columns ++ c ∷ more)) (sym (below_suc columns depth lt)) (Contains-tail columns (columns ++ c ∷ more) (level columns (free_list n columns) depth) inside)
+      subst (λ l. Contains l (columns ++ c ∷ more)) (sym (below_suc columns depth lt))
+      (Contains-tail columns (columns ++ c ∷ more) (level columns (free_list n columns) depth) inside)
 
   -- boards under different columns differ
-  apart_next : (columns : List ℕ) (c : ℕ) (board : List ℕ) → IsUnder (next columns c) board → (d : ℕ) → c ≢ d → (other : List ℕ) → IsUnder (next columns d) other → board ≢ other
+  apart_next : (columns : List ℕ) (c : ℕ) (board : List ℕ) → IsUnder (next columns c) board → (d : ℕ)
+      → c ≢ d → (other : List ℕ) → IsUnder (next columns d) other → board ≢ other
   apart_next columns c board u d ne other v e =
-      let same : columns ++ c ∷ u.more ≡ columns ++ d ∷ v.more = sym (append_assoc columns (c ∷ []) u.more) ∙ sym u.is ∙ e ∙ v.is ∙ append_assoc columns (d ∷ []) v.more in
+      let same : columns ++ c ∷ u.more ≡ columns
+      ++ d ∷ v.more = sym (append_assoc columns (c ∷ []) u.more) ∙ sym u.is ∙ e ∙ v.is
+      ∙ append_assoc columns (d ∷ []) v.more in
       let rest : c ∷ u.more ≡ d ∷ v.more = append_cancel_left columns (c ∷ u.more) (d ∷ v.more) same in
       ne (cc rest)
 
-  apart_level : (columns choices : List ℕ) (depth : ℕ) (c : ℕ) (board : List ℕ) → IsUnder (next columns c) board → All (λ d. c ≢ d) choices → All (λ other. board ≢ other) (level columns choices depth)
+  apart_level : (columns choices : List ℕ) (depth : ℕ) (c : ℕ) (board : List ℕ)
+      → IsUnder (next columns c) board → All (λ d. c ≢ d) choices
+      → All (λ other. board ≢ other) (level columns choices depth)
   apart_level columns [] depth c board u ne = All-nil (λ other. board ≢ other)
   apart_level columns (d ∷ choices) depth c board u ne =
       All-append (λ other. board ≢ other) (below (next columns d) depth) (level columns choices depth)
-      (All-weaker (IsUnder (next columns d)) (λ other. board ≢ other) (λ other v. apart_next columns c board u d (All-head (λ d. c ≢ d) d choices ne) other v) (below (next columns d) depth) (under depth (next columns d)))
+      (All-weaker (IsUnder (next columns d)) (λ other. board ≢ other)
+      (λ other v. apart_next columns c board u d (All-head (λ d. c ≢ d) d choices ne) other v)
+      (below (next columns d) depth) (under depth (next columns d)))
       (apart_level columns choices depth c board u (All-tail (λ d. c ≢ d) d choices ne))
 
-  once_level : (columns choices : List ℕ) (depth : ℕ) → ((c : ℕ) → AllPairs (λ a b. a ≢ b) (below (next columns c) depth)) → AllPairs (λ x y. x ≢ y) choices → AllPairs (λ a b. a ≢ b) (level columns choices depth)
+  once_level : (columns choices : List ℕ) (depth : ℕ)
+      → ((c : ℕ) → AllPairs (λ a b. a ≢ b) (below (next columns c) depth))
+      → AllPairs (λ x y. x ≢ y) choices → AllPairs (λ a b. a ≢ b) (level columns choices depth)
   once_level columns [] depth each differ = λ i j d lt within. absurd (omega arith)
   once_level columns (c ∷ choices) depth each differ =
-      AllPairs-append (λ a b. a ≢ b) (below (next columns c) depth) (level columns choices depth) (each c) (once_level columns choices depth each (AllPairs-tail (λ x y. x ≢ y) c choices differ))
-      (All-weaker (IsUnder (next columns c)) (λ a. All (λ b. a ≢ b) (level columns choices depth)) (λ board u. apart_level columns choices depth c board u (AllPairs-head (λ x y. x ≢ y) c choices differ)) (below (next columns c) depth) (under depth (next columns c)))
+      AllPairs-append (λ a b. a ≢ b) (below (next columns c) depth) (level columns choices depth) (each c)
+      (once_level columns choices depth each (AllPairs-tail (λ x y. x ≢ y) c choices differ))
+      (All-weaker (IsUnder (next columns c)) (λ a. All (λ b. a ≢ b) (level columns choices depth))
+      (λ board u. apart_level columns choices depth c board u
+      (AllPairs-head (λ x y. x ≢ y) c choices differ)) (below (next columns c) depth)
+      (under depth (next columns c)))
 
   longer : (columns : List ℕ) (c : ℕ) (board : List ℕ) → IsUnder (next columns c) board → columns ≢ board
-  longer columns c board u e = absurd (omega (arith, ap length e, ap length u.is, length-append (next columns c) u.more, length_push columns c))
+  longer columns c board u e =
+      absurd (omega (
+        arith,
+        ap length e,
+        ap length u.is,
+        length-append (next columns c) u.more,
+        length_push columns c,
+      ))
 
-  longer_level : (columns choices : List ℕ) (depth : ℕ) → All (λ board. columns ≢ board) (level columns choices depth)
+  longer_level : (columns choices : List ℕ) (depth : ℕ)
+      → All (λ board. columns ≢ board) (level columns choices depth)
   longer_level columns [] depth = All-nil (λ board. columns ≢ board)
   longer_level columns (c ∷ choices) depth =
       All-append (λ board. columns ≢ board) (below (next columns c) depth) (level columns choices depth)
-      (All-weaker (IsUnder (next columns c)) (λ board. columns ≢ board) (longer columns c) (below (next columns c) depth) (under depth (next columns c))) (longer_level columns choices depth)
+      (All-weaker (IsUnder (next columns c)) (λ board. columns ≢ board) (longer columns c)
+      (below (next columns c) depth) (under depth (next columns c)))
+      (longer_level columns choices depth)
 
   once : (depth : ℕ) (columns : List ℕ) → AllPairs (λ a b. a ≢ b) (below columns depth)
-  once zero columns = subst (AllPairs (λ a b. a ≢ b)) (sym (below_zero columns)) (λ i j d lt within. absurd (omega arith))
+  once zero columns =
+      subst (AllPairs (λ a b. a ≢ b)) (sym (below_zero columns)) (λ i j d lt within. absurd (omega arith))
   once (suc depth) columns =
       elim (cases_lt (length columns) n) [
         | inl lt ↦
             subst (AllPairs (λ a b. a ≢ b)) (sym (below_suc columns depth lt))
-            (AllPairs-cons (λ a b. a ≢ b) columns (level columns (free_list n columns) depth) (longer_level columns (free_list n columns) depth)
-            (once_level columns (free_list n columns) depth (λ c. once depth (next columns c)) (choices_differ n columns)))
+            (AllPairs-cons (λ a b. a ≢ b) columns (level columns (free_list n columns) depth)
+            (longer_level columns (free_list n columns) depth)
+            (once_level columns (free_list n columns) depth (λ c. once depth (next columns c))
+            (choices_differ n columns)))
         | inr ge ↦
-            subst (AllPairs (λ a b. a ≢ b)) (sym (below_full columns depth ge)) (λ i j d lt within. absurd (omega arith))
+            subst (AllPairs (λ a b. a ≢ b)) (sym (below_full columns depth ge))
+            (λ i j d lt within. absurd (omega arith))
       ]
 
   -- the tree is small
-  level_size : (columns choices : List ℕ) (depth most : ℕ) → ((c : ℕ) → IsChoice n columns c → length (below (next columns c) depth) ≤ most) → All (IsChoice n columns) choices → length (level columns choices depth) ≤ length choices * most
+  level_size : (columns choices : List ℕ) (depth most : ℕ)
+      → ((c : ℕ) → IsChoice n columns c → length (below (next columns c) depth) ≤ most)
+      → All (IsChoice n columns) choices → length (level columns choices depth) ≤ length choices * most
   level_size columns [] depth most each all = omega arith
   level_size columns (c ∷ choices) depth most each all =
       let first = each c (All-head (IsChoice n columns) c choices all) in
@@ -213,15 +286,19 @@ module _ (n : ℕ) where
       let size = length-append (below (next columns c) depth) (level columns choices depth) in
       omega (arith, suc-mul (length choices) most)
 
-  size : (depth : ℕ) (columns : List ℕ) (free : ℕ) → IsBoard n columns → length columns + free ≡ n → length (below columns depth) ≤ arrangements free
+  size : (depth : ℕ) (columns : List ℕ) (free : ℕ) → IsBoard n columns → length columns + free ≡ n
+      → length (below columns depth) ≤ arrangements free
   unfolding arrangements
   size zero columns free board e = omega (arith, ap length (below_zero columns))
   size (suc depth) columns zero board e = omega (arith, ap length (below_full columns depth (omega arith)))
   size (suc depth) columns (suc free) board e =
       let lt : length columns < n = omega arith in
       let few : length (free_list n columns) ≤ suc free = omega (arith, few_free n columns board) in
-      let all = level_size columns (free_list n columns) depth (arrangements free) (λ c choice. size depth (next columns c) free (board_push n columns c lt board choice) (omega (arith, length_push columns c))) (free_choices n columns) in
-      let product : length (free_list n columns) * arrangements free ≤ suc free * arrangements free = mul-le-mul_right (arrangements free) few in
+      let all = level_size columns (free_list n columns) depth (arrangements free)
+      (λ c choice. size depth (next columns c) free (board_push n columns c lt board choice)
+      (omega (arith, length_push columns c))) (free_choices n columns) in
+      let product : length (free_list n columns) * arrangements free ≤ suc free * arrangements free =
+      mul-le-mul_right (arrangements free) few in
       omega (arith, ap length (below_suc columns depth lt))
 
   -- the empty board

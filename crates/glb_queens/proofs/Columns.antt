@@ -7,7 +7,8 @@ use Rattle.std.proofs.lemmas.Nat.Bits.{bit_at-trailing_zeros, bit_at_clear_same,
 use Rattle.glb_queens.specs.Masks.{columns_in}
 
 -- tests that agree on a run of numbers keep the same of them
-pub filter_range : (p q : ℕ → Bool) (a n : ℕ) → ((k : ℕ) → a ≤ k → k < a + n → p k ≡ q k) → filter p (range_with_len a n) ≡ filter q (range_with_len a n)
+pub filter_range : (p q : ℕ → Bool) (a n : ℕ) → ((k : ℕ) → a ≤ k → k < a + n → p k ≡ q k)
+    → filter p (range_with_len a n) ≡ filter q (range_with_len a n)
 filter_range p q a zero h = refl
 filter_range p q a (suc n) h =
     let rest = filter_range p q (a + 1) n (λ k low high. h k (omega arith) (omega arith)) in
@@ -15,21 +16,25 @@ filter_range p q a (suc n) h =
 
 -- the first number that passes comes first
 pub first_kept : (p q : ℕ → Bool) (t a n : ℕ) → a ≤ t → t < a + n → p t ≡ true → q t ≡ false
-    → ((k : ℕ) → k < t → p k ≡ false) → ((k : ℕ) → k ≢ t → k < a + n → p k ≡ q k) → filter p (range_with_len a n) ≡ t ∷ filter q (range_with_len a n)
+    → ((k : ℕ) → k < t → p k ≡ false) → ((k : ℕ) → k ≢ t → k < a + n → p k ≡ q k)
+    → filter p (range_with_len a n) ≡ t ∷ filter q (range_with_len a n)
 first_kept p q t a zero low high passes fails below same = absurd (omega arith)
 first_kept p q t a (suc n) low high passes fails below same =
     elim (cases_eq a t) [
       | inl here ↦
-          let rest = filter_range p q (a + 1) n (λ k k_low k_high. same k (λ e. absurd (omega (arith, e))) (omega arith)) in
+          let rest = filter_range p q (a + 1) n
+          (λ k k_low k_high. same k (λ e. absurd (omega (arith, e))) (omega arith)) in
           let pa : p a ≡ true = ap p here ∙ passes in
           let qa : q a ≡ false = ap q here ∙ fails in
-          cond-true (p a) _ _ pa ∙ ap₂ (λ x l. x ∷ l) here rest ∙ ap (λ l. t ∷ l) (sym (cond-false (q a) _ _ qa))
+          cond-true (p a) _ _ pa ∙ ap₂ (λ x l. x ∷ l) here rest
+          ∙ ap (λ l. t ∷ l) (sym (cond-false (q a) _ _ qa))
       | inr later ↦
           let lt : a < t = omega (arith, later) in
           let pa : p a ≡ false = below a lt in
           let qa : q a ≡ false = sym (same a later (omega arith)) ∙ pa in
           cond-false (p a) _ _ pa
-          ∙ first_kept p q t (a + 1) n (omega arith) (omega arith) passes fails below (λ k ne k_high. same k ne (omega arith))
+          ∙ first_kept p q t (a + 1) n (omega arith) (omega arith) passes fails below
+          (λ k ne k_high. same k ne (omega arith))
           ∙ ap (λ l. t ∷ l) (sym (cond-false (q a) _ _ qa))
     ]
 
@@ -52,32 +57,44 @@ lowest m pos fits within =
       small = within t low.1;
       set = low.1;
       first =
-          first_kept (λ c. bit_at m c == 1) (λ c. bit_at rest c == 1) t 0 16 (omega arith) (within t low.1) (eq-eqb _ _ low.1) (ap (λ v. v == 1) (bit_at_clear_same w32 m t low.0))
+          first_kept (λ c. bit_at m c == 1) (λ c. bit_at rest c == 1) t 0 16 (omega arith)
+          (within t low.1) (eq-eqb _ _ low.1) (ap (λ v. v == 1) (bit_at_clear_same w32 m t low.0))
           (λ k lt. ap (λ v. v == 1) (low.2 k lt))
           (λ k ne lt. ap (λ v. v == 1) (sym (bit_at_clear_other w32 m t low.0 k (omega arith) ne)));
       only = λ c one. omega (arith, bit_at_and m queen c, bit_at-lt m c);
     }
 
 -- one push more
-pub pushed_more : {X : Type 0} (f : ℕ → X) (before after : List X) (columns rest : List ℕ) (t : ℕ) (all : List X) → columns ≡ t ∷ rest → after ≡ before ++ f t ∷ [] → before ++ map f columns ≡ all → after ++ map f rest ≡ all
+pub pushed_more : {X : Type 0} (f : ℕ → X) (before after : List X) (columns rest : List ℕ) (t : ℕ)
+    (all : List X) → columns ≡ t ∷ rest → after ≡ before ++ f t ∷ [] → before ++ map f columns ≡ all
+    → after ++ map f rest ≡ all
 pushed_more f before after columns rest t all e p h =
-    ap (λ l. l ++ map f rest) p ∙ append_assoc before (f t ∷ []) (map f rest) ∙ ap (λ l. before ++ map f l) (sym e) ∙ h
+    ap (λ l. l ++ map f rest) p ∙ append_assoc before (f t ∷ []) (map f rest)
+    ∙ ap (λ l. before ++ map f l) (sym e) ∙ h
 
 -- a bound in the test is a bound on the run
-filter_none : (p : ℕ → Bool) (a n : ℕ) → ((k : ℕ) → a ≤ k → p k ≡ false) → filter p (range_with_len a n) ≡ []
+filter_none : (p : ℕ → Bool) (a n : ℕ) → ((k : ℕ) → a ≤ k → p k ≡ false)
+    → filter p (range_with_len a n) ≡ []
 filter_none p a zero h = refl
-filter_none p a (suc n) h = cond-false (p a) _ _ (h a (omega arith)) ∙ filter_none p (a + 1) n (λ k low. h k (omega arith))
+filter_none p a (suc n) h = cond-false (p a) _ _ (h a (omega arith))
+    ∙ filter_none p (a + 1) n (λ k low. h k (omega arith))
 
-filter_up_to : (p : ℕ → Bool) (a n m b : ℕ) → n ≤ m → a + n ≡ b → filter (λ c. nat_lt c b && p c) (range_with_len a m) ≡ filter p (range_with_len a n)
-filter_up_to p a zero m b le e = filter_none (λ c. nat_lt c b && p c) a m (λ k low. ap (λ t. t && p k) (le-ltb k b (omega arith)))
+filter_up_to : (p : ℕ → Bool) (a n m b : ℕ) → n ≤ m → a + n ≡ b
+    → filter (λ c. nat_lt c b && p c) (range_with_len a m) ≡ filter p (range_with_len a n)
+filter_up_to p a zero m b le e =
+    filter_none (λ c. nat_lt c b && p c) a m (λ k low. ap (λ t. t && p k) (le-ltb k b (omega arith)))
 filter_up_to p a (suc n) zero b le e = absurd (omega arith)
 filter_up_to p a (suc n) (suc m) b le e =
-    ap₂ (λ t l. cond (t && p a) (a ∷ l) l) (lt-ltb a b (omega arith)) (filter_up_to p (a + 1) n m b (omega arith) (omega arith))
+    ap₂ (λ t l. cond (t && p a) (a ∷ l) l) (lt-ltb a b (omega arith))
+    (filter_up_to p (a + 1) n m b (omega arith) (omega arith))
 
-pub columns_below : (p : ℕ → Bool) (mask n : ℕ) → n ≤ 16 → ((c : ℕ) → (bit_at mask c == 1) ≡ (nat_lt c n && p c)) → columns_in mask ≡ filter p (range_with_len 0 n)
+pub columns_below : (p : ℕ → Bool) (mask n : ℕ) → n ≤ 16
+    → ((c : ℕ) → (bit_at mask c == 1) ≡ (nat_lt c n && p c))
+    → columns_in mask ≡ filter p (range_with_len 0 n)
 unfolding columns_in
 columns_below p mask n le says =
-    filter_range (λ c. bit_at mask c == 1) (λ c. nat_lt c n && p c) 0 16 (λ k low high. says k) ∙ filter_up_to p 0 n 16 n le (zero-add n)
+    filter_range (λ c. bit_at mask c == 1) (λ c. nat_lt c n && p c) 0 16 (λ k low high. says k)
+    ∙ filter_up_to p 0 n 16 n le (zero-add n)
 
 pub columns_none : columns_in 0 ≡ []
 unfolding columns_in

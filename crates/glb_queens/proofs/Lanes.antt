@@ -14,7 +14,8 @@ lane_other : (row k : ℕ) → (k ≡ row → ⊥) → lane row k ≡ false
 lane_other row k ne = ap (λ t. top 7 (cond t 255 0)) (ne_eqb k row ne)
 
 lanes_from : (n a row c : ℕ) (columns : List ℕ) → length columns ≡ n
-    → sel_l (map (lane row) (range_with_len a n)) (replicate n c) columns ≡ cond (nat_lt row a) columns (set columns (row - a) c)
+    → sel_l (map (lane row) (range_with_len a n)) (replicate n c) columns ≡ cond (nat_lt row a) columns
+    (set columns (row - a) c)
 lanes_from zero a row c [] size = none (nat_lt row a)
   where
     none : (b : Bool) → [] ≡ cond b [] (set [] (row - a) c)
@@ -27,16 +28,27 @@ lanes_from (suc n) a row c (x ∷ columns) size =
     elim (cases_order row a) [
       | inl here ↦
           let start : row - a ≡ 0 = omega (arith, here) in
-          ap₂ (λ t l. cond t c x ∷ l) (lane_here row a (sym here)) (rest ∙ ap (λ t. cond t columns (set columns (row - (a + 1)) c)) (lt-ltb row (a + 1) (omega (arith, here))))
-          ∙ sym (ap (λ t. cond t (x ∷ columns) (set (x ∷ columns) (row - a) c)) (le-ltb row a (omega (arith, here))) ∙ ap (λ k. set (x ∷ columns) k c) start)
+          ap₂ (λ t l. cond t c x ∷ l) (lane_here row a (sym here))
+          (rest ∙ ap (λ t. cond t columns (set columns (row - (a + 1)) c))
+          (lt-ltb row (a + 1) (omega (arith, here))))
+          ∙ sym (ap (λ t. cond t (x ∷ columns) (set (x ∷ columns) (row - a) c))
+          (le-ltb row a (omega (arith, here))) ∙ ap (λ k. set (x ∷ columns) k c) start)
       | inr (inl before) ↦
-          ap₂ (λ t l. cond t c x ∷ l) (lane_other row a (λ e. absurd (omega (arith, e)))) (rest ∙ ap (λ t. cond t columns (set columns (row - (a + 1)) c)) (lt-ltb row (a + 1) (omega arith)))
+          ap₂ (λ t l. cond t c x ∷ l) (lane_other row a (λ e. absurd (omega (arith, e))))
+          (rest ∙ ap (λ t. cond t columns (set columns (row - (a + 1)) c))
+          (lt-ltb row (a + 1) (omega arith)))
           ∙ sym (ap (λ t. cond t (x ∷ columns) (set (x ∷ columns) (row - a) c)) (lt-ltb row a before))
       | inr (inr after) ↦
           let step : row - a ≡ suc (row - (a + 1)) = omega arith in
-          ap₂ (λ t l. cond t c x ∷ l) (lane_other row a (λ e. absurd (omega (arith, e)))) (rest ∙ ap (λ t. cond t columns (set columns (row - (a + 1)) c)) (le-ltb row (a + 1) (omega arith)))
-          ∙ sym (ap (λ t. cond t (x ∷ columns) (set (x ∷ columns) (row - a) c)) (le-ltb row a (omega arith)) ∙ ap (λ k. set (x ∷ columns) k c) step)
+          ap₂ (λ t l. cond t c x ∷ l) (lane_other row a (λ e. absurd (omega (arith, e))))
+          (rest ∙ ap (λ t. cond t columns (set columns (row - (a + 1)) c))
+          (le-ltb row (a + 1) (omega arith)))
+          ∙ sym (ap (λ t. cond t (x ∷ columns) (set (x ∷ columns) (row - a) c))
+          (le-ltb row a (omega arith)) ∙ ap (λ k. set (x ∷ columns) k c) step)
     ]
 
-pub lane_replaced : (row c : ℕ) (columns : List ℕ) → length columns ≡ 16 → sel_l (map (lane row) (range_with_len 0 16)) (replicate 16 c) columns ≡ set columns row c
-lane_replaced row c columns size = lanes_from 16 0 row c columns size ∙ ap (λ t. cond t columns (set columns (row - 0) c)) (le-ltb row 0 (omega arith)) ∙ ap (λ k. set columns k c) (omega arith)
+pub lane_replaced : (row c : ℕ) (columns : List ℕ) → length columns ≡ 16
+    → sel_l (map (lane row) (range_with_len 0 16)) (replicate 16 c) columns ≡ set columns row c
+lane_replaced row c columns size = lanes_from 16 0 row c columns size
+    ∙ ap (λ t. cond t columns (set columns (row - 0) c)) (le-ltb row 0 (omega arith))
+    ∙ ap (λ k. set columns k c) (omega arith)

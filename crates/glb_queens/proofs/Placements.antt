@@ -6,19 +6,25 @@ use Rattle.glb_laws.specs.Bounded.{sat_sum, capped_sum}
 use Rattle.glb_laws.specs.Expansion.{combined}
 use Rattle.glb_queens.specs.Boards.{worth, count_full, arrangements}
 
-one_more : (b : Bool) (s k : ℕ) → min (min (s + cond b 1 0) (2 ^ 64 - 1) + k) (2 ^ 64 - 1) ≡ min (s + (cond b 1 0 + k)) (2 ^ 64 - 1)
+one_more : (b : Bool) (s k : ℕ)
+    → min (min (s + cond b 1 0) (2 ^ 64 - 1) + k) (2 ^ 64 - 1) ≡ min (s + (cond b 1 0 + k)) (2 ^ 64 - 1)
 one_more true s k = omega arith
 one_more false s k = omega arith
 
-counted : (n : ℕ) (boards : List (List ℕ)) (s : ℕ) → s < 2 ^ 64 → combined (worth n) (λ a b. sat_sum (capped_sum a.0 b.0)) (sat_sum s) boards ≡ sat_sum (min (s + count_full n boards) (2 ^ 64 - 1))
+counted : (n : ℕ) (boards : List (List ℕ)) (s : ℕ) → s < 2 ^ 64
+    → combined (worth n) (λ a b. sat_sum (capped_sum a.0 b.0)) (sat_sum s) boards ≡ sat_sum
+    (min (s + count_full n boards) (2 ^ 64 - 1))
 counted n [] s fits = ap sat_sum (omega arith)
 counted n (board ∷ boards) s fits =
     let one = λ (columns : List ℕ). cond (length columns == n) 1 0 in
     counted n boards (capped_sum s (one board)) (omega arith)
-    ∙ ap sat_sum (one_more (length board == n) s (count_full n boards) ∙ ap (λ k. min (s + k) (2 ^ 64 - 1)) (sym (sum_by-cons one board boards)))
+    ∙ ap sat_sum (one_more (length board == n) s (count_full n boards)
+    ∙ ap (λ k. min (s + k) (2 ^ 64 - 1)) (sym (sum_by-cons one board boards)))
 
 -- where the boards are few, no sum is cut
-pub full_boards : (n : ℕ) (boards : List (List ℕ)) → length boards < 2 ^ 46 → combined (worth n) (λ a b. sat_sum (capped_sum a.0 b.0)) (sat_sum 0) boards ≡ sat_sum (count_full n boards)
+pub full_boards : (n : ℕ) (boards : List (List ℕ)) → length boards < 2 ^ 46
+    → combined (worth n) (λ a b. sat_sum (capped_sum a.0 b.0)) (sat_sum 0) boards ≡ sat_sum
+    (count_full n boards)
 full_boards n boards few =
     let least = count_by-le-length (λ columns. length columns == n) boards in
     let fits : count_full n boards < 2 ^ 64 = omega arith in

@@ -13,7 +13,8 @@ AreApart a b rows = (a ≢ b) × (a + rows ≢ b) × (b + rows ≢ a)
 -- columns are distinct, and no two rows i < j have columns that differ by j - i
 abbrev pub IsSafe : List ℕ → Type 0
 IsSafe columns =
-    (i j : ℕ) → i < j → j < length columns → AreApart (slice_index columns i) (slice_index columns j) (j - i)
+    (i j : ℕ) → i < j → j < length columns
+    → AreApart (slice_index columns i) (slice_index columns j) (j - i)
 
 -- a safe list of at most n columns below n
 pub record IsBoard (n : ℕ) (columns : List ℕ) : Type 0 where

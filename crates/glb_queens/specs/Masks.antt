@@ -51,11 +51,14 @@ columns_in mask = filter (λ column. bit_at mask column == 1) (range_with_len 0 
 pub same_fields : (b : Inside) → IsKept b → fields_of (take b.rows b.columns) ≡ b
 same_fields b kept =
     let columns = take b.rows b.columns in
-    let rows : length columns ≡ b.rows = length-take b.rows b.columns ∙ omega (arith, kept.size, kept.rows) in
+    let rows : length columns ≡ b.rows = length-take b.rows b.columns
+    ∙ omega (arith, kept.size, kept.rows) in
     let all : columns ++ replicate (16 - length columns) 0 ≡ b.columns =
-    ap (λ k. columns ++ replicate (16 - k) 0) rows ∙ ap (λ l. columns ++ l) (sym kept.rest) ∙ take-append-drop b.rows b.columns
+    ap (λ k. columns ++ replicate (16 - k) 0) rows ∙ ap (λ l. columns ++ l) (sym kept.rest)
+    ∙ take-append-drop b.rows b.columns
     in
-    let made : List ℕ → ℕ → ℕ → ℕ → ℕ → Inside = λ c n t r f. record { columns = c; rows = n; taken = t; rising = r; falling = f } in
+    let made : List ℕ → ℕ → ℕ → ℕ → ℕ
+    → Inside = λ c n t r f. record { columns = c; rows = n; taken = t; rising = r; falling = f } in
     ap (λ c. made c (length columns) (taken_of columns) (rising_of columns) (falling_of columns)) all
     ∙ ap (λ n. made b.columns n (taken_of columns) (rising_of columns) (falling_of columns)) rows
     ∙ ap (λ t. made b.columns b.rows t (rising_of columns) (falling_of columns)) (sym kept.taken)

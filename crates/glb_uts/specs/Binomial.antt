@@ -15,7 +15,8 @@ use Rattle.glb_uts.specs.Descriptors.{child_descriptor, draw}
 -- how many children a node has: none at depth 2^41 or more, B0 at the root, and M where the draw is below Q
 abbrev pub fan : Uts → Node → ℕ
 fan uts node =
-    cond (nat_le (2 ^ 41) node.depth) 0 (cond node.root uts.b0 (cond (nat_lt (draw node.descriptor) uts.q) uts.m 0))
+    cond (nat_le (2 ^ 41) node.depth) 0
+    (cond node.root uts.b0 (cond (nat_lt (draw node.descriptor) uts.q) uts.m 0))
 
 -- the child of this number, counted from 0
 abbrev pub child : Node → ℕ → Node
@@ -32,7 +33,15 @@ children uts node = map (child node) (range_with_len 0 (fan uts node))
 -- one node, one leaf where it has no children, and its depth
 abbrev pub worth : Uts → Node → Both SatSum (Both SatSum Greatest)
 worth uts node =
-    both (sat_sum 1) (both (sat_sum (cond (fan uts node == 0) 1 0)) (greatest (min node.depth (2 ^ 64 - 1))))
+    both (sat_sum 1) (both (sat_sum (cond (fan uts node == 0) 1 0))
+    (greatest (min node.depth (2 ^ 64 - 1))))
 
-pub worth_fits : (uts : Uts) (node : Node) → ((worth uts node).0.0 < 2 ^ 64) × (((worth uts node).1.0.0 < 2 ^ 64) × ((worth uts node).1.1.0 < 2 ^ 64))
-worth_fits uts node = (lit< tt, (cond_both (fan uts node == 0) 1 0 (λ v. v < 2 ^ 64) (λ _. lit< tt) (λ _. lit< tt), omega arith))
+pub worth_fits : (uts : Uts) (node : Node) → ((worth uts node).0.0 < 2 ^ 64)
+    × (((worth uts node).1.0.0 < 2 ^ 64) × ((worth uts node).1.1.0 < 2 ^ 64))
+worth_fits uts node = (
+  lit< tt,
+  (
+    cond_both (fan uts node == 0) 1 0 (λ v. v < 2 ^ 64) (λ _. lit< tt) (λ _. lit< tt),
+    omega arith,
+  ),
+)

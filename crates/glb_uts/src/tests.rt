@@ -109,7 +109,7 @@ fn trees_have_the_known_numbers(rt: HostRuntime) -> Result<(), Fail> {
         (Uts::new(3, 8, 0, 42), 4, 3, 1),
         (Uts::new(2000, 4, 483183820, 7), 18361, 14270, 38),
         (Uts::new(1000, 16, 134200000, 2), 90505, 84910, 107),
-        // T3 of the benchmark, as published
+        // the binomial sample tree of the benchmark, as published
         (Uts::new(2000, 8, 268167021, 42), 4112897, 3599034, 1572),
     ];
     for (uts, nodes, leaves, depth) in trees {

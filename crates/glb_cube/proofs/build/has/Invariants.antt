@@ -3,4 +3,5 @@ use Rattle.glb_cube.specs.Lines.{has_number}
 use Rattle.glb_cube.proofs.build.has.Given as goal
 
 abbrev pub invariant-loop-x : goal.invariant-loop-x
-invariant-loop-x l = record { left : has_number l.number (drop l.x-index l.list) ≡ has_number l.number l.list }
+invariant-loop-x l =
+    record { left : has_number l.number (drop l.x-index l.list) ≡ has_number l.number l.list }

@@ -6,22 +6,43 @@ use Rattle.glb_cube.proofs.WalkRounds.{ascent_at, ascent_end, part_out, part_las
 use Rattle.glb_cube.proofs.ways.ascend.Goals as goal
 
 pub ascend_in-requires-clause-unit : goal.ascend_in-requires-clause-unit
-ascend_in-requires-clause-unit c = rw c.loop-i.invariant.unit (unit_some c.args.shape.base c.loop-i._i c.args.shape.base_range.0, unit_small c.args.shape.places c.args.shape.base c.args.shape.dimension c.loop-i._i c.args.shape.least c.args.shape.few.1 c.loop-i-test.true)
+ascend_in-requires-clause-unit c =
+    rw c.loop-i.invariant.unit (
+      unit_some c.args.shape.base c.loop-i._i c.args.shape.base_range.0,
+      unit_small c.args.shape.places c.args.shape.base c.args.shape.dimension c.loop-i._i c.args.shape.least
+          c.args.shape.few.1 c.loop-i-test.true,
+    )
 
 pub overflow_mul-unit : goal.overflow_mul-unit
 overflow_mul-unit c =
-    let small = unit_small c.args.shape.places c.args.shape.base c.args.shape.dimension c.loop-i._i c.args.shape.least c.args.shape.few.1 c.loop-i-test.true in
-    omega (arith, mul-le c.loop-i.unit c.args.shape.base 64 64 (rw c.loop-i.invariant.unit small) c.args.shape.base_range.1)
+    let small = unit_small c.args.shape.places c.args.shape.base c.args.shape.dimension c.loop-i._i
+    c.args.shape.least c.args.shape.few.1 c.loop-i-test.true in
+    omega (
+      arith,
+      mul-le c.loop-i.unit c.args.shape.base 64 64 (rw c.loop-i.invariant.unit small)
+          c.args.shape.base_range.1,
+    )
 
 pub loop-i-preserved : goal.loop-i-preserved
 loop-i-preserved c =
-    let next : ℕ → _ = λ q. ascent c.args.shape.places c.args.shape.base c.args.b (c.loop-i.unit * c.args.shape.base) (c.args.shape.dimension - (c.loop-i._i + 1)) q in
+    let next : ℕ → _ = λ q.
+    ascent c.args.shape.places c.args.shape.base c.args.b (c.loop-i.unit * c.args.shape.base)
+    (c.args.shape.dimension - (c.loop-i._i + 1)) q in
     record {
-      unit = ap (λ x. x * c.args.shape.base) c.loop-i.invariant.unit ∙ unit_more c.args.shape.base c.loop-i._i (c.loop-i._i + 1) refl;
+      unit = ap (λ x. x * c.args.shape.base) c.loop-i.invariant.unit
+          ∙ unit_more c.args.shape.base c.loop-i._i (c.loop-i._i + 1) refl;
       small = c.in_ok-reached.ensures.small;
-      left = part_out c.loop-i.reached _ _ _ c.loop-i.way.items _ _ next (ascent_at c.args.shape.places c.args.shape.base c.args.b c.loop-i.unit c.args.shape.dimension c.loop-i._i c.loop-i.reached c.loop-i-test.true) c.in_ok-reached.ensures.ok c.in_ok-reached.ensures.last c.loop-i.invariant.left;
-      last = part_last c.loop-i.reached _ _ _ _ next (ascent_at c.args.shape.places c.args.shape.base c.args.b c.loop-i.unit c.args.shape.dimension c.loop-i._i c.loop-i.reached c.loop-i-test.true) c.in_ok-reached.ensures.last c.loop-i.invariant.last;
+      left = part_out c.loop-i.reached _ _ _ c.loop-i.way.items _ _ next
+          (ascent_at c.args.shape.places c.args.shape.base c.args.b c.loop-i.unit c.args.shape.dimension
+          c.loop-i._i c.loop-i.reached c.loop-i-test.true) c.in_ok-reached.ensures.ok
+          c.in_ok-reached.ensures.last c.loop-i.invariant.left;
+      last = part_last c.loop-i.reached _ _ _ _ next
+          (ascent_at c.args.shape.places c.args.shape.base c.args.b c.loop-i.unit c.args.shape.dimension
+          c.loop-i._i c.loop-i.reached c.loop-i-test.true) c.in_ok-reached.ensures.last
+          c.loop-i.invariant.last;
     }
 
 pub returns : goal.returns
-returns c = stop_out _ _ _ (ascent_end c.args.shape.places c.args.shape.base c.args.b c.loop-i.unit c.args.shape.dimension c.loop-i._i c.loop-i.reached c.loop-i-test.false) c.loop-i.invariant.left
+returns c = stop_out _ _ _
+    (ascent_end c.args.shape.places c.args.shape.base c.args.b c.loop-i.unit c.args.shape.dimension
+    c.loop-i._i c.loop-i.reached c.loop-i-test.false) c.loop-i.invariant.left

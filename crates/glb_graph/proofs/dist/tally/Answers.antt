@@ -14,10 +14,15 @@ loop-vertex-preserved c = elim c.if-steps.branch [
       let most = w.greatest-is ∙ w.max-greatest.ensures ∙ ap (max c.loop-vertex.greatest) w.from.ensures in
       let sum = w.sum-is ∙ ap (λ n. c.loop-vertex.sum + n) w.from-sum.ensures in
       elim w.if-vertex-start.branch [
-        | then-vertex-start w' ↦ tally_took _ _ _ _ _ _ _ 1 _ _ _ c.loop-vertex.invariant refl w.if-steps.true small (rw (ne_eqb _ _ w'.if-vertex-start.true)) (omega arith) (w.reached-is ∙ w'.reached-is) sum most
-        | else-vertex-start w' ↦ tally_took _ _ _ _ _ _ _ 0 _ _ _ c.loop-vertex.invariant refl w.if-steps.true small (rw (eq-eqb _ _ w'.if-vertex-start.false)) (omega arith) (omega (arith, w.reached-is, w'.reached-is)) sum most
+        | then-vertex-start w' ↦ tally_took _ _ _ _ _ _ _ 1 _ _ _ c.loop-vertex.invariant refl
+            w.if-steps.true small (rw (ne_eqb _ _ w'.if-vertex-start.true)) (omega arith)
+            (w.reached-is ∙ w'.reached-is) sum most
+        | else-vertex-start w' ↦ tally_took _ _ _ _ _ _ _ 0 _ _ _ c.loop-vertex.invariant refl
+            w.if-steps.true small (rw (eq-eqb _ _ w'.if-vertex-start.false)) (omega arith)
+            (omega (arith, w.reached-is, w'.reached-is)) sum most
       ]
-  | else-steps w ↦ tally_skipped _ _ _ _ _ _ _ _ _ c.loop-vertex.invariant w.if-steps.false w.reached-is w.sum-is w.greatest-is
+  | else-steps w ↦ tally_skipped _ _ _ _ _ _ _ _ _ c.loop-vertex.invariant w.if-steps.false w.reached-is
+      w.sum-is w.greatest-is
 ]
 
 pub returns : goal.returns

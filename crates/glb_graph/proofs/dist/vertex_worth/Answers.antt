@@ -8,7 +8,11 @@ pub tally-requires-clause-few : goal.tally-requires-clause-few
 tally-requires-clause-few c = omega (arith, c.deref.ensures.len, c.in_ok-table.ensures.limit)
 
 pub tally-requires-clause-small : goal.tally-requires-clause-small
-tally-requires-clause-small c = rw c.deref.ensures.value (table_small c.args.graph.now c.args.start c.in_ok-table.table.items c.in_ok-table.ensures.table c.in_ok-table.ensures.limit)
+tally-requires-clause-small c =
+    rw c.deref.ensures.value
+    (table_small c.args.graph.now c.args.start c.in_ok-table.table.items c.in_ok-table.ensures.table
+    c.in_ok-table.ensures.limit)
 
 pub returns : goal.returns
-returns c = c.tally.ensures ∙ ap (λ t. worth (shown t) c.args.start (length t)) c.deref.ensures.value ∙ table_worth c.args.graph.now c.args.start c.in_ok-table.table.items c.in_ok-table.ensures.table
+returns c = c.tally.ensures ∙ ap (λ t. worth (shown t) c.args.start (length t)) c.deref.ensures.value
+    ∙ table_worth c.args.graph.now c.args.start c.in_ok-table.table.items c.in_ok-table.ensures.table

@@ -4,7 +4,8 @@ use Rattle.glb_graph.proofs.LawFacts.{graph_is, graph_edges}
 use Rattle.glb_graph.proofs.laws.text_is_of_a_graph.Goals as goal
 
 pub returns-clause-graph : goal.returns-clause-graph
-returns-clause-graph c = λ bytes v pairs says. let l = says_limits bytes v pairs says in graph_is v pairs l.0 l.1 l.2
+returns-clause-graph c = λ bytes v pairs says. let l = says_limits bytes v pairs says
+    in graph_is v pairs l.0 l.1 l.2
 
 pub returns-clause-vertices : goal.returns-clause-vertices
 returns-clause-vertices c = length-graph_of

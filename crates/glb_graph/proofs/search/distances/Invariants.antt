@@ -5,7 +5,8 @@ use Rattle.glb_graph.proofs.search.distances.Given as goal
 abbrev pub invariant-loop-target : goal.invariant-loop-target
 invariant-loop-target l = record {
   room : IsQueue l.graph l.queue.items l.found;
-  front : IsFront l.graph l.start l.table.items (take l.found l.queue.items) l.head l.vertex l.steps l.target-items l.target-index;
+  front : IsFront l.graph l.start l.table.items (take l.found l.queue.items) l.head l.vertex l.steps
+      l.target-items l.target-index;
 }
 
 abbrev pub invariant-loop-head : goal.invariant-loop-head

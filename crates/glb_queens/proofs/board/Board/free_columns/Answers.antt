@@ -5,7 +5,8 @@ use Rattle.glb_queens.proofs.board.Board.free_columns.Goals as goal
 
 pub returns : goal.returns
 returns c =
-    free_mask c.args.self.now c.args.n c.self.inside.taken c.self.inside.rising c.self.inside.falling c.requires
+    free_mask c.args.self.now c.args.n c.self.inside.taken c.self.inside.rising c.self.inside.falling
+    c.requires
     (c.self.invariant.taken ∙ ap taken_of c.self.view_is)
     (c.self.invariant.rising ∙ ap rising_of c.self.view_is)
     (c.self.invariant.falling ∙ ap falling_of c.self.view_is)

@@ -8,7 +8,14 @@ pub invariant_of-result : goal.invariant_of-result
 invariant_of-result c =
     let b = c.self.inside in
     let queen = 1 * 2 ^ c.args.column % 4294967296 in
-    subst (λ l. IsKept (record { columns = l; rows = b.rows + 1; taken = bit_or b.taken queen; rising = bit_or b.rising queen * 2 % 4294967296; falling = bit_or b.falling queen / 2 }))
+    subst (λ l. IsKept (record {
+      columns = l;
+      rows = b.rows + 1;
+      taken = bit_or b.taken queen;
+      rising =
+          bit_or b.rising queen * 2 % 4294967296;
+      falling = bit_or b.falling queen / 2;
+    }))
     (sym c.with_column.ensures)
     (kept_push b c.args.column c.self.invariant
     (subst (λ l. length l < 16) (sym c.self.view_is) c.requires.rows)

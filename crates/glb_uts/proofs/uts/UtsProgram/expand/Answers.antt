@@ -14,4 +14,6 @@ returns-clause-appended c =
 pub returns-clause-value : goal.returns-clause-value
 returns-clause-value c =
     c.worth_of.ensures
-    ∙ ap (λ n. both (sat_sum 1) (both (sat_sum (cond (n == 0) 1 0)) (greatest (min c.args.node.now.depth (2 ^ 64 - 1))))) c.fan-fan.ensures
+    ∙ ap (λ n. both (sat_sum 1)
+    (both (sat_sum (cond (n == 0) 1 0)) (greatest (min c.args.node.now.depth (2 ^ 64 - 1)))))
+    c.fan-fan.ensures
