@@ -16,9 +16,12 @@ pub record Balances {I : Type 0} (s : Setup) (w : World I) : Type 0 where
   pub given : across s w (λ a. a.count.given) ≡ across s w (λ a. a.count.got)
   pub line_given : across s w (λ a. a.count.line_given) ≡ across s w (λ a. a.count.line_got)
   pub units : across s w (λ a. a.count.sent_units) ≡ across s w (λ a. a.count.got_units)
-  pub asks : (p : ℕ) → p < s.places → (w.place p).count.asks ≡ (w.place p).count.shrugs + (w.place p).count.got
-  pub all_asks : across s w (λ a. a.count.asks) ≡ across s w (λ a. a.count.denied) + across s w (λ a. a.count.given)
-  pub lines : (p : ℕ) → p < s.places → armed_at_start s p + (w.place p).count.line_asks ≡ (w.place p).count.line_got + degree s p
+  pub asks : (p : ℕ) → p < s.places
+      → (w.place p).count.asks ≡ (w.place p).count.shrugs + (w.place p).count.got
+  pub all_asks : across s w (λ a. a.count.asks) ≡ across s w (λ a. a.count.denied) + across s w
+      (λ a. a.count.given)
+  pub lines : (p : ℕ) → p < s.places
+      → armed_at_start s p + (w.place p).count.line_asks ≡ (w.place p).count.line_got + degree s p
   pub naps : (p : ℕ) → p < s.places → (w.place p).count.sleeps ≡ (w.place p).count.wakes + bit (s.awake p)
 
 module _ {I : Type 0} (s : Setup) (w : World I) (L : IsLawful s w) (finished : w.live ≡ 0) where
@@ -32,21 +35,28 @@ module _ {I : Type 0} (s : Setup) (w : World I) (L : IsLawful s w) (finished : w
   steal_idle t v l m = (L.thief kind.Steal t v l m).quiet (no_credits t l) refl
 
   -- a line that is there is Refused, any other one is Idle
-  line_busy : (t v : ℕ) → t < s.places → v < s.places → (busy (w.edge kind.Line t v) ≡ bit (has_line s t v)) × (loots (w.edge kind.Line t v) ≡ 0) × (units (w.edge kind.Line t v) ≡ 0)
+  line_busy : (t v : ℕ) → t < s.places → v < s.places
+      → (busy (w.edge kind.Line t v) ≡ bit (has_line s t v)) × (loots (w.edge kind.Line t v) ≡ 0)
+      × (units (w.edge kind.Line t v) ≡ 0)
   line_busy t v l m = go (has_line s t v) refl (w.edge kind.Line t v) refl
     where
       armed : has_line s t v ≡ true → IsArmed (w.edge kind.Line t v)
       armed h = (L.thief kind.Line t v l m).armed (no_credits t l) refl h
 
-      go : (b : Bool) → has_line s t v ≡ b → (e : WorldEdge I) → w.edge kind.Line t v ≡ e → (busy (w.edge kind.Line t v) ≡ bit b) × (loots (w.edge kind.Line t v) ≡ 0) × (units (w.edge kind.Line t v) ≡ 0)
-      go false h e q = let i : w.edge kind.Line t v ≡ Idle = (L.thief kind.Line t v l m).there h in rw i (refl, refl, refl)
+      go : (b : Bool) → has_line s t v ≡ b → (e : WorldEdge I) → w.edge kind.Line t v ≡ e
+          → (busy (w.edge kind.Line t v) ≡ bit b) × (loots (w.edge kind.Line t v) ≡ 0)
+          × (units (w.edge kind.Line t v) ≡ 0)
+      go false h e q = let i : w.edge kind.Line t v ≡ Idle = (L.thief kind.Line t v l m).there h
+          in rw i (refl, refl, refl)
       go true h Idle q = absurd (let a : IsArmed {I = I} Idle = rw q at (armed h) in a)
       go true h Asked q = absurd (let a : IsArmed {I = I} Asked = rw q at (armed h) in a)
       go true h Refused q = rw q (refl, refl, refl)
       go true h (Loot xs) q = absurd (Q.no_loot kind.Line t v l m xs q)
 
-  none : (k : Kind) (g : WorldEdge I → ℕ) → ((t v : ℕ) → t < s.places → v < s.places → g (w.edge k t v) ≡ 0) → over s w k g ≡ 0
-  none k g h = sum_zero s.places (λ t. own s w k t g) (λ t l. sum_zero s.places (λ v. g (w.edge k t v)) (λ v m. h t v l m))
+  none : (k : Kind) (g : WorldEdge I → ℕ)
+      → ((t v : ℕ) → t < s.places → v < s.places → g (w.edge k t v) ≡ 0) → over s w k g ≡ 0
+  none k g h = sum_zero s.places (λ t. own s w k t g)
+      (λ t l. sum_zero s.places (λ v. g (w.edge k t v)) (λ v m. h t v l m))
 
   woke : (b : Bool) (n k : ℕ) → n + bit (not b) ≡ k + 1 → n ≡ k + bit b
   woke true n k e = omega (arith, e)
@@ -54,11 +64,16 @@ module _ {I : Type 0} (s : Setup) (w : World I) (L : IsLawful s w) (finished : w
 
   pub balances : Balances s w
   balances =
-      let steal_loots : over s w kind.Steal loots ≡ 0 = none kind.Steal loots (λ t v l m. rw (steal_idle t v l m) refl) in
-      let steal_asked : over s w kind.Steal asked ≡ 0 = none kind.Steal asked (λ t v l m. rw (steal_idle t v l m) refl) in
-      let steal_units : over s w kind.Steal units ≡ 0 = none kind.Steal units (λ t v l m. rw (steal_idle t v l m) refl) in
-      let line_loots : over s w kind.Line loots ≡ 0 = none kind.Line loots (λ t v l m. (line_busy t v l m).1) in
-      let line_units : over s w kind.Line units ≡ 0 = none kind.Line units (λ t v l m. (line_busy t v l m).2) in
+      let steal_loots : over s w kind.Steal loots ≡ 0 =
+      none kind.Steal loots (λ t v l m. rw (steal_idle t v l m) refl) in
+      let steal_asked : over s w kind.Steal asked ≡ 0 =
+      none kind.Steal asked (λ t v l m. rw (steal_idle t v l m) refl) in
+      let steal_units : over s w kind.Steal units ≡ 0 =
+      none kind.Steal units (λ t v l m. rw (steal_idle t v l m) refl) in
+      let line_loots : over s w kind.Line loots ≡ 0 =
+      none kind.Line loots (λ t v l m. (line_busy t v l m).1) in
+      let line_units : over s w kind.Line units ≡ 0 =
+      none kind.Line units (λ t v l m. (line_busy t v l m).2) in
       let S = L.sums in
       record {
         given = let a = S.given in omega arith;
@@ -66,12 +81,18 @@ module _ {I : Type 0} (s : Setup) (w : World I) (L : IsLawful s w) (finished : w
         units = let a = S.units in omega arith;
         asks = λ p l.
             let a = (L.counted p l).asks in
-            let b : own s w kind.Steal p busy ≡ 0 = sum_zero s.places (λ v. busy (w.edge kind.Steal p v)) (λ v m. rw (steal_idle p v l m) refl) in
+            let b : own s w kind.Steal p busy ≡ 0 =
+            sum_zero s.places (λ v. busy (w.edge kind.Steal p v))
+            (λ v m. rw (steal_idle p v l m) refl) in
             omega arith;
-        all_asks = let a = S.asks in let b = sum_plus s.places (λ p. (w.place p).count.denied) (λ p. (w.place p).count.given) in omega arith;
+        all_asks = let a = S.asks in
+            let b = sum_plus s.places (λ p. (w.place p).count.denied) (λ p. (w.place p).count.given)
+            in omega arith;
         lines = λ p l.
             let a = (L.counted p l).lines in
-            let b : own s w kind.Line p busy ≡ degree s p = sum_same s.places (λ v. bit (has_line s p v)) (λ v. busy (w.edge kind.Line p v)) (λ v m. (line_busy p v l m).0) in
+            let b : own s w kind.Line p busy ≡ degree s p =
+            sum_same s.places (λ v. bit (has_line s p v)) (λ v. busy (w.edge kind.Line p v))
+            (λ v m. (line_busy p v l m).0) in
             omega arith;
         naps = λ p l.
             let a = (L.inner p l).naps in

@@ -19,7 +19,8 @@ more : (w n k : ℕ) → 0 < k → w * n + w ≤ w * (n + k)
 more w n k l = let e = mul-add w n k in let d : w * 1 ≤ w * k = mul-le-mul_left w l in omega arith
 
 free_le : {I : Type 0} (s : Setup) (w : World I) (p : ℕ) → free s w p ≤ degree s p
-free_le s w p = sum_le s.places (λ v. cond (has_line s p v) (idle (w.edge kind.Line p v)) 0) (λ v. bit (has_line s p v)) (λ v l. each (has_line s p v) (w.edge kind.Line p v))
+free_le s w p = sum_le s.places (λ v. cond (has_line s p v) (idle (w.edge kind.Line p v)) 0)
+    (λ v. bit (has_line s p v)) (λ v l. each (has_line s p v) (w.edge kind.Line p v))
   where
     one : {I : Type 0} (e : WorldEdge I) → idle e ≤ 1
     one Idle = omega arith
@@ -36,7 +37,8 @@ batch_fits : {I : Type 0} (rest : List I) → PhaseFits (rests rest) credit.One 
 batch_fits [] = (refl, refl)
 batch_fits (x ∷ xs) = (omega arith, λ z. cc)
 
-batch_tries : {I : Type 0} (w n : ℕ) (rest : List I) → n ≤ w → (tries_after w n rest ≤ w) × (resting (rests rest) (tries_after w n rest) ≤ w)
+batch_tries : {I : Type 0} (w n : ℕ) (rest : List I) → n ≤ w → (tries_after w n rest ≤ w)
+    × (resting (rests rest) (tries_after w n rest) ≤ w)
 batch_tries w n [] l = (omega arith, omega arith)
 batch_tries w n (x ∷ xs) l = (l, omega arith)
 
@@ -44,7 +46,8 @@ batch_rests : {I : Type 0} (rest : List I) (n : ℕ) → resting (rests rest) n 
 batch_rests [] n = omega arith
 batch_rests (x ∷ xs) n = omega arith
 
-batch_waits : {I : Type 0} (rest : List I) (k : Kind) (v : ℕ) → (waits_on k v (rests rest) ≡ false) × (rests rest ≢ phase.Gone)
+batch_waits : {I : Type 0} (rest : List I) (k : Kind) (v : ℕ) → (waits_on k v (rests rest) ≡ false)
+    × (rests rest ≢ phase.Gone)
 batch_waits [] k v = (refl, λ e. cc)
 batch_waits (x ∷ xs) k v = (refl, λ e. cc)
 
@@ -52,7 +55,8 @@ batch_near : {I : Type 0} (rest : List I) (v : ℕ) (k : Kind) → rests rest �
 batch_near [] v k e = cc
 batch_near (x ∷ xs) v k e = cc
 
-pub batch_keeps : {I : Type 0} (children : I → List I) (s : Setup) (old new : World I) (p : ℕ) → IsLawful s old → Step children s old (Batch p) new → IsLawful s new
+pub batch_keeps : {I : Type 0} (children : I → List I) (s : Setup) (old new : World I) (p : ℕ)
+    → IsLawful s old → Step children s old (Batch p) new → IsLawful s new
 batch_keeps children s old new p L st =
     let l = st.in_range.0 in
     let i = L.inner p l in
@@ -68,7 +72,8 @@ batch_keeps children s old new p L st =
         tries = t.0;
         items = (let e = i.items in omega (arith, length-append (old.place p).done st.taken));
         naps = i.naps;
-        asks = (let a = i.asks in let m = more s.tries n (length st.taken) some in let t1 = t.1 in omega arith);
+        asks = (let a = i.asks in let m = more s.tries n (length st.taken) some in let t1 = t.1
+            in omega arith);
         sent = i.sent;
         wakes = i.wakes;
         near = λ v k e. absurd (batch_near st.rest v k e);
@@ -77,7 +82,8 @@ batch_keeps children s old new p L st =
       gone = λ g. absurd ((batch_waits st.rest kind.Steal 0).1 g);
       quiet = λ z. (z, λ n. n);
       thief = λ k v m.
-          let T : ThiefSide s k p v (record (old.place p) { phase = phase.Working }) (old.edge k p v) = thief_same (L.thief k p v l m) (sym working) (λ z. z) in
+          let T : ThiefSide s k p v (record (old.place p) { phase = phase.Working }) (old.edge k p v) =
+          thief_same (L.thief k p v l m) (sym working) (λ z. z) in
           record {
             there = T.there;
             steal = λ e d x. T.steal e (λ y. cc) refl;
@@ -92,7 +98,9 @@ batch_keeps children s old new p L st =
       counted = (let o = L.counted p l in record {
         asks = o.asks;
         lines = o.lines;
-        line_asks = (let a = o.line_asks in let f = free_le s old p in let r = batch_rests st.rest (free s old p) in let m = more (degree s p) n (length st.taken) some in omega arith);
+        line_asks = (let a = o.line_asks in let f = free_le s old p in
+            let r = batch_rests st.rest (free s old p) in
+            let m = more (degree s p) n (length st.taken) some in omega arith);
       });
       balanced = record { live = refl; asks = refl; given = refl; line_given = refl; units = refl };
     })

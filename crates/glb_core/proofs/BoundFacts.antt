@@ -19,7 +19,8 @@ use Rattle.glb_core.specs.declared.event.Event.{Event}
 
 sum_line : (n c d : ℕ) (f : ℕ → ℕ) → sum_to n (λ j. c * f j + d) ≡ c * sum_to n f + d * n
 sum_line zero c d f = omega arith
-sum_line (suc n) c d f = let e = sum_line n c d f in let m = mul-add c (sum_to n f) (f n) in let k = mul-add d n 1 in omega arith
+sum_line (suc n) c d f = let e = sum_line n c d f in let m = mul-add c (sum_to n f) (f n) in
+    let k = mul-add d n 1 in omega arith
 
 steal_le : {I : Type 0} (e : WorldEdge I) → steal_rank e ≤ 3 * busy e
 steal_le Idle = omega arith
@@ -61,13 +62,16 @@ no_credit_le credit.Taken = omega arith
 
 module _ {I : Type 0} (s : Setup) (w : World I) (P : IsProper s) (L : IsLawful s w) where
   -- lines: what was asked or armed
-  lines_le : (p : ℕ) → p < s.places → (w.place p).count.line_got + own s w kind.Line p busy ≤ s.dimension * (w.place p).count.items + s.dimension
+  lines_le : (p : ℕ) → p < s.places
+      → (w.place p).count.line_got + own s w kind.Line p busy ≤ s.dimension * (w.place p).count.items +
+      s.dimension
   lines_le p l =
       let c = L.counted p l in
       let e = c.lines in
       let a = c.line_asks in
       let d = P.out p l in
-      let m : degree s p * (w.place p).count.items ≤ s.dimension * (w.place p).count.items = mul-le-mul_right (w.place p).count.items d in
+      let m : degree s p * (w.place p).count.items ≤ s.dimension * (w.place p).count.items =
+      mul-le-mul_right (w.place p).count.items d in
       let g = armed (s.awake p) in
       omega arith
     where
@@ -78,17 +82,23 @@ module _ {I : Type 0} (s : Setup) (w : World I) (P : IsProper s) (L : IsLawful s
   -- all of one place's rank but what it gave and got
   abbrev alone : ℕ → ℕ
   alone p =
-      (marks_most s + 1) * (w.place p).count.items + marks_rank s (w.place p) + 3 * (w.place p).count.shrugs + 3 * (w.place p).count.got + 6 * (w.place p).count.line_got
-      + (w.place p).count.sleeps + phase_rank (w.place p).phase + credit_rank (w.place p).credit + own s w kind.Steal p steal_rank + own s w kind.Line p line_rank
+      (marks_most s + 1) * (w.place p).count.items + marks_rank s (w.place p) + 3 *
+      (w.place p).count.shrugs + 3 * (w.place p).count.got + 6 * (w.place p).count.line_got
+      + (w.place p).count.sleeps + phase_rank (w.place p).phase + credit_rank (w.place p).credit + own s w
+      kind.Steal p steal_rank + own s w kind.Line p line_rank
 
-  alone_le : (p : ℕ) → p < s.places → alone p ≤ (marks_most s + 1 + 3 * s.tries + 7 * s.dimension) * (w.place p).count.items + (marks_most s + 7 * s.dimension + 5)
+  alone_le : (p : ℕ) → p < s.places
+      → alone p ≤ (marks_most s + 1 + 3 * s.tries + 7 * s.dimension) * (w.place p).count.items +
+      (marks_most s + 7 * s.dimension + 5)
   alone_le p l =
       let n = (w.place p).count.items in
       let i = L.inner p l in
       let c = L.counted p l in
       let m = marks_le s w p P L l in
-      let st = sum_times s.places 3 (λ v. steal_rank (w.edge kind.Steal p v)) (λ v. busy (w.edge kind.Steal p v)) (λ v j. steal_le (w.edge kind.Steal p v)) in
-      let li = sum_times s.places 5 (λ v. line_rank (w.edge kind.Line p v)) (λ v. busy (w.edge kind.Line p v)) (λ v j. line_le (w.edge kind.Line p v)) in
+      let st = sum_times s.places 3 (λ v. steal_rank (w.edge kind.Steal p v))
+      (λ v. busy (w.edge kind.Steal p v)) (λ v j. steal_le (w.edge kind.Steal p v)) in
+      let li = sum_times s.places 5 (λ v. line_rank (w.edge kind.Line p v))
+      (λ v. busy (w.edge kind.Line p v)) (λ v j. line_le (w.edge kind.Line p v)) in
       let f = phase_le (w.place p).phase in
       let k = credit_le (w.place p).credit in
       let z = no_credit_le (w.place p).credit in
@@ -111,23 +121,34 @@ module _ {I : Type 0} (s : Setup) (w : World I) (P : IsProper s) (L : IsLawful s
       let n = s.places in
       let M = across s w (λ a. a.count.items) in
       -- the rank by places
-      let r0 = sum_same n (λ p. alone p + extra p) (λ p. (place_rank s (w.place p) + own s w kind.Steal p steal_rank) + own s w kind.Line p line_rank) (λ p l. omega arith) in
-      let r1 = sum_plus n (λ p. place_rank s (w.place p) + own s w kind.Steal p steal_rank) (λ p. own s w kind.Line p line_rank) in
+      let r0 = sum_same n (λ p. alone p + extra p)
+      (λ p. (place_rank s (w.place p) + own s w kind.Steal p steal_rank) + own s w kind.Line p
+      line_rank) (λ p l. omega arith) in
+      let r1 = sum_plus n (λ p. place_rank s (w.place p) + own s w kind.Steal p steal_rank)
+      (λ p. own s w kind.Line p line_rank) in
       let r2 = sum_plus n (λ p. place_rank s (w.place p)) (λ p. own s w kind.Steal p steal_rank) in
       let r3 = sum_plus n alone extra in
-      let r4 = sum_le n alone (λ p. (marks_most s + 1 + 3 * s.tries + 7 * s.dimension) * (w.place p).count.items + (marks_most s + 7 * s.dimension + 5)) alone_le in
-      let r5 = sum_line n (marks_most s + 1 + 3 * s.tries + 7 * s.dimension) (marks_most s + 7 * s.dimension + 5) (λ p. (w.place p).count.items) in
+      let r4 = sum_le n alone
+      (λ p. (marks_most s + 1 + 3 * s.tries + 7 * s.dimension) * (w.place p).count.items +
+      (marks_most s + 7 * s.dimension + 5)) alone_le in
+      let r5 = sum_line n (marks_most s + 1 + 3 * s.tries + 7 * s.dimension)
+      (marks_most s + 7 * s.dimension + 5) (λ p. (w.place p).count.items) in
       -- what was given and got
-      let x1 = sum_plus n (λ p. (w.place p).count.got + (w.place p).count.given) (λ p. (w.place p).count.line_given) in
+      let x1 = sum_plus n (λ p. (w.place p).count.got + (w.place p).count.given)
+      (λ p. (w.place p).count.line_given) in
       let x2 = sum_plus n (λ p. (w.place p).count.got) (λ p. (w.place p).count.given) in
       let g1 = L.sums.given in
       let g2 = L.sums.asks in
       let g3 = sum_plus n (λ p. (w.place p).count.denied) (λ p. (w.place p).count.given) in
-      let g4 = sum_times n s.tries (λ p. (w.place p).count.asks) (λ p. (w.place p).count.items) (λ p l. let i = (L.inner p l).asks in omega arith) in
+      let g4 = sum_times n s.tries (λ p. (w.place p).count.asks) (λ p. (w.place p).count.items)
+      (λ p l. let i = (L.inner p l).asks in omega arith) in
       let l1 = L.sums.line_given in
       let l2 = sum_plus n (λ p. (w.place p).count.line_got) (λ p. own s w kind.Line p busy) in
-      let l3 = sum_le n (λ p. own s w kind.Line p loots) (λ p. own s w kind.Line p busy) (λ p l. sum_le n (λ v. loots (w.edge kind.Line p v)) (λ v. busy (w.edge kind.Line p v)) (λ v m. loots_le (w.edge kind.Line p v))) in
-      let l4 = sum_le n (λ p. (w.place p).count.line_got + own s w kind.Line p busy) (λ p. s.dimension * (w.place p).count.items + s.dimension) lines_le in
+      let l3 = sum_le n (λ p. own s w kind.Line p loots) (λ p. own s w kind.Line p busy)
+      (λ p l. sum_le n (λ v. loots (w.edge kind.Line p v)) (λ v. busy (w.edge kind.Line p v))
+      (λ v m. loots_le (w.edge kind.Line p v))) in
+      let l4 = sum_le n (λ p. (w.place p).count.line_got + own s w kind.Line p busy)
+      (λ p. s.dimension * (w.place p).count.items + s.dimension) lines_le in
       let l5 = sum_line n s.dimension s.dimension (λ p. (w.place p).count.items) in
       -- the numbers
       let B = 7 * s.tries + 11 * s.dimension + 2 * n + 3 in
@@ -145,7 +166,8 @@ module _ {I : Type 0} (s : Setup) (w : World I) (P : IsProper s) (L : IsLawful s
       omega arith
 
 -- a run without Halt is no longer than what the rank rose by
-pub run_rises : {I : Type 0} (children : I → List I) (s : Setup) (old : World I) (es : List Event) (new : World I) → IsProper s → IsLawful s old →
+pub run_rises : {I : Type 0} (children : I → List I) (s : Setup) (old : World I) (es : List Event)
+    (new : World I) → IsProper s → IsLawful s old →
     NoHalt es → Run children s old es new → length es + rank s old ≤ rank s new
 run_rises children s old [] new P L n r = rw r (omega arith)
 run_rises children s old (e ∷ es) new P L n r =

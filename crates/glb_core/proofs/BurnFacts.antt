@@ -16,7 +16,8 @@ burnt (phase.Waiting v k) n h = (h.0, refl)
 burnt phase.Asleep n h = let e = h.1 in absurd (cc)
 burnt phase.Gone n h = λ z. absurd (cc)
 
-pub burn_keeps : {I : Type 0} (children : I → List I) (s : Setup) (old new : World I) (p : ℕ) → IsLawful s old → Step children s old (Burn p) new → IsLawful s new
+pub burn_keeps : {I : Type 0} (children : I → List I) (s : Setup) (old new : World I) (p : ℕ)
+    → IsLawful s old → Step children s old (Burn p) new → IsLawful s new
 burn_keeps children s old new p L st =
     let l = st.in_range.0 in
     let i = L.inner p l in
@@ -41,5 +42,11 @@ burn_keeps children s old new p L st =
       victim = λ k t m. let o = L.victim k t p m l in record { pending = o.pending; unseen = o.unseen };
       can_give = λ x y. absurd (cc);
       counted = let o = L.counted p l in record { asks = o.asks; lines = o.lines; line_asks = o.line_asks };
-      balanced = record { live = rw taken (omega arith); asks = refl; given = refl; line_given = refl; units = refl };
+      balanced = record {
+        live = rw taken (omega arith);
+        asks = refl;
+        given = refl;
+        line_given = refl;
+        units = refl;
+      };
     })

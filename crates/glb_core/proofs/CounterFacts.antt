@@ -15,13 +15,15 @@ bit_most : (b : Bool) → bit b ≤ 1
 bit_most true = omega arith
 bit_most false = omega arith
 
-module _ {I : Type 0} (s : Setup) (w : World I) (L : IsLawful s w) (few : s.places ≤ 64) (tries : s.tries ≤ 64)
+module _ {I : Type 0} (s : Setup) (w : World I) (L : IsLawful s w) (few : s.places ≤ 64)
+    (tries : s.tries ≤ 64)
     (small : across s w (λ a. a.count.items) ≤ 2 ^ 41) where
   items_le : (p : ℕ) → p < s.places → (w.place p).count.items ≤ 2 ^ 41
   items_le p l = let t = term_le s.places p (λ p. (w.place p).count.items) l in omega arith
 
   degree_le : (p : ℕ) → degree s p ≤ 64
-  degree_le p = let d = sum_most s.places 1 (λ v. bit (has_line s p v)) (λ v l. bit_most (has_line s p v)) in omega arith
+  degree_le p = let d = sum_most s.places 1 (λ v. bit (has_line s p v)) (λ v l. bit_most (has_line s p v))
+      in omega arith
 
   asks_le : (p : ℕ) → p < s.places → (w.place p).count.asks ≤ 2 ^ 47
   asks_le p l =
@@ -32,7 +34,8 @@ module _ {I : Type 0} (s : Setup) (w : World I) (L : IsLawful s w) (few : s.plac
   line_asks_le : (p : ℕ) → p < s.places → (w.place p).count.line_asks ≤ 2 ^ 47
   line_asks_le p l =
       let a = (L.counted p l).line_asks in
-      let m : degree s p * (w.place p).count.items ≤ 64 * 2 ^ 41 = mul-le-mul (degree_le p) (items_le p l) in
+      let m : degree s p * (w.place p).count.items ≤ 64 * 2 ^ 41 =
+      mul-le-mul (degree_le p) (items_le p l) in
       omega arith
 
   armed_le : (p : ℕ) → armed_at_start s p ≤ 64
@@ -43,11 +46,13 @@ module _ {I : Type 0} (s : Setup) (w : World I) (L : IsLawful s w) (few : s.plac
       go false = degree_le p
 
   line_got_le : (p : ℕ) → p < s.places → (w.place p).count.line_got ≤ 2 ^ 47 + 64
-  line_got_le p l = let a = (L.counted p l).lines in let b = armed_le p in let c = line_asks_le p l in omega arith
+  line_got_le p l = let a = (L.counted p l).lines in let b = armed_le p in let c = line_asks_le p l
+      in omega arith
 
   -- sums over at most 64 places
   all_le : (k : ℕ) (f : ℕ → ℕ) → ((p : ℕ) → p < s.places → f p ≤ k) → sum_to s.places f ≤ 64 * k
-  all_le k f h = let a = sum_most s.places k f h in let m : s.places * k ≤ 64 * k = mul-le-mul_right k few in omega arith
+  all_le k f h = let a = sum_most s.places k f h in let m : s.places * k ≤ 64 * k = mul-le-mul_right k few
+      in omega arith
 
   given_le : across s w (λ a. a.count.denied) + across s w (λ a. a.count.given) ≤ 64 * 2 ^ 47
   given_le =
@@ -60,12 +65,15 @@ module _ {I : Type 0} (s : Setup) (w : World I) (L : IsLawful s w) (few : s.plac
   line_given_le =
       let a = L.sums.line_given in
       let b = all_le (2 ^ 47 + 64) (λ p. (w.place p).count.line_got) line_got_le in
-      let c = all_le 64 (λ t. own s w kind.Line t loots) (λ t l. let d = sum_most s.places 1 (λ v. loots (w.edge kind.Line t v)) (λ v m. loots_most (w.edge kind.Line t v)) in omega arith) in
+      let c = all_le 64 (λ t. own s w kind.Line t loots)
+      (λ t l. let d = sum_most s.places 1 (λ v. loots (w.edge kind.Line t v))
+      (λ v m. loots_most (w.edge kind.Line t v)) in omega arith) in
       omega arith
 
   sent_le : across s w (λ a. a.count.sent_units) ≤ 2 ^ 64 * 2 ^ 55
   sent_le =
-      let a = sum_times s.places (2 ^ 64) (λ p. (w.place p).count.sent_units) (λ p. (w.place p).count.given + (w.place p).count.line_given) (λ p l. (L.inner p l).sent) in
+      let a = sum_times s.places (2 ^ 64) (λ p. (w.place p).count.sent_units)
+      (λ p. (w.place p).count.given + (w.place p).count.line_given) (λ p l. (L.inner p l).sent) in
       let b = sum_plus s.places (λ p. (w.place p).count.given) (λ p. (w.place p).count.line_given) in
       let x = given_le in
       let y = line_given_le in

@@ -42,7 +42,8 @@ module _ (a : PlaceState) (z : Sight) (Good : Event → Type 0) (R : Rows a.plac
   poll : Fine Poll
   poll e q = absurd (cc)
 
-  either : {A : Type 0} (o : Option A) (f : A → Action) (b : Action) → ((x : A) → o ≡ Some x → Fine (f x)) → Fine b → Fine (or_else o f b)
+  either : {A : Type 0} (o : Option A) (f : A → Action) (b : Action) → ((x : A) → o ≡ Some x → Fine (f x))
+      → Fine b → Fine (or_else o f b)
   either None f b h n = n
   either (Some x) f b h n = h x refl
 
@@ -56,7 +57,8 @@ module _ (a : PlaceState) (z : Sight) (Good : Event → Type 0) (R : Rows a.plac
 
   working_fine : Fine (working a z)
   working_fine =
-      either (cond (nat_lt 1 a.size) (first wants z.ins) None) _ _ (λ x e. fine _ (mints (nat_lt 1 a.size) x e))
+      either (cond (nat_lt 1 a.size) (first wants z.ins) None) _ _
+      (λ x e. fine _ (mints (nat_lt 1 a.size) x e))
       (either (first is_pending z.ins) _ _ (λ x e. fine _ (R.deny x.thief x.kind)) (fine _ R.batch))
 
   taking_fine : (rest : Action) → Fine rest → Fine (taking a z rest)
@@ -77,7 +79,8 @@ module _ (a : PlaceState) (z : Sight) (Good : Event → Type 0) (R : Rows a.plac
   waiting_fine v k seen.Loot = fine _ (R.take v k)
 
   phase_fine : (f : Phase) → Fine (by_phase f a z)
-  phase_fine phase.Working = either (first is_unseen z.ins) _ _ (λ x e. fine _ (R.look x.thief x.kind)) working_fine
+  phase_fine phase.Working =
+      either (first is_unseen z.ins) _ _ (λ x e. fine _ (R.look x.thief x.kind)) working_fine
   phase_fine phase.Idle = denying_fine _ (taking_fine _ asking_fine)
   phase_fine (phase.Waiting v k) = denying_fine _ (waiting_fine v k z.waited)
   phase_fine phase.Asleep = denying_fine _ (taking_fine _ poll)
@@ -96,11 +99,22 @@ module _ (a : PlaceState) (z : Sight) (Good : Event → Type 0) (R : Rows a.plac
 -- a decided event is the deciding place's own
 pub decided_actor : (a : PlaceState) (z : Sight) (e : Event) → decide a z ≡ Do e → actor e ≡ a.place
 decided_actor a z = every_decision a z (λ e. actor e ≡ a.place)
-    (record { look = λ t k. refl; batch = refl; ask = λ v k. refl; deny = λ t k. refl; give = λ t k. refl; take = λ v k. refl; burn = refl; shrug = λ v k. refl; sleep = refl })
+    (record {
+      look = λ t k. refl;
+      batch = refl;
+      ask = λ v k. refl;
+      deny = λ t k. refl;
+      give = λ t k. refl;
+      take = λ v k. refl;
+      burn = refl;
+      shrug = λ v k. refl;
+      sleep = refl;
+    })
     (λ x i e. refl) refl
 
 -- no place decides to halt the run
-pub decided_no_halt : (a : PlaceState) (z : Sight) (e : Event) → decide a z ≡ Do e → (p c : ℕ) → e ≢ event.Halt p c
+pub decided_no_halt : (a : PlaceState) (z : Sight) (e : Event) → decide a z ≡ Do e → (p c : ℕ)
+    → e ≢ event.Halt p c
 decided_no_halt a z = every_decision a z (λ e. (p c : ℕ) → e ≢ event.Halt p c)
     (record {
       look = λ t k p c x. cc;
@@ -121,20 +135,45 @@ MintSees z (event.Mint q) = (x : InEdge) × IsIn x z.ins × (wants x ≡ true)
 MintSees z _ = Unit {0}
 
 -- a place that decides to mint sees who wants work
-pub decided_mint : (a : PlaceState) (z : Sight) (p : ℕ) → decide a z ≡ Do (event.Mint p) → (x : InEdge) × IsIn x z.ins × (wants x ≡ true)
+pub decided_mint : (a : PlaceState) (z : Sight) (p : ℕ) → decide a z ≡ Do (event.Mint p) → (x : InEdge)
+    × IsIn x z.ins × (wants x ≡ true)
 decided_mint a z p d = every_decision a z (MintSees z)
-    (record { look = λ t k. tt; batch = tt; ask = λ v k. tt; deny = λ t k. tt; give = λ t k. tt; take = λ v k. tt; burn = tt; shrug = λ v k. tt; sleep = tt })
+    (record {
+      look = λ t k. tt;
+      batch = tt;
+      ask = λ v k. tt;
+      deny = λ t k. tt;
+      give = λ t k. tt;
+      take =
+          λ v k. tt;
+      burn = tt;
+      shrug = λ v k. tt;
+      sleep = tt;
+    })
     (λ x i e. (x, i, e)) tt (event.Mint p) d
 
 not_over : (n : ℕ) → n ≡ 0 → (d : Bool) → d ≡ false → (not (n == 0) || d) ≡ false
 not_over n s d e = rw (s, e) refl
 
 -- before the end a place decides neither to leave nor to halt
-pub decided_goes : (a : PlaceState) (z : Sight) → z.stop ≡ 0 → z.ended ≡ false → (e : Event) → decide a z ≡ Do e → GoesOn e
+pub decided_goes : (a : PlaceState) (z : Sight) → z.stop ≡ 0 → z.ended ≡ false → (e : Event)
+    → decide a z ≡ Do e → GoesOn e
 decided_goes a z s n e d = credit_fine a z GoesOn
-    (record { look = λ t k. tt; batch = tt; ask = λ v k. tt; deny = λ t k. tt; give = λ t k. tt; take = λ v k. tt; burn = tt; shrug = λ v k. tt; sleep = tt })
+    (record {
+      look = λ t k. tt;
+      batch = tt;
+      ask = λ v k. tt;
+      deny = λ t k. tt;
+      give = λ t k. tt;
+      take =
+          λ v k. tt;
+      burn = tt;
+      shrug = λ v k. tt;
+      sleep = tt;
+    })
     (λ x i e. tt) a.credit e (going (not (z.stop == 0) || z.ended) (not_over z.stop s z.ended n) d)
   where
-    going : (b : Bool) → b ≡ false → cond b (Do (event.Leave a.place)) (by_credit a.credit a z) ≡ Do e → by_credit a.credit a z ≡ Do e
+    going : (b : Bool) → b ≡ false → cond b (Do (event.Leave a.place)) (by_credit a.credit a z) ≡ Do e
+        → by_credit a.credit a z ≡ Do e
     going true n d = absurd (cc)
     going false n d = d

@@ -41,7 +41,8 @@ set_mark m k t x j u = cond (same_kind k j && (t == u)) x (m j u)
 pub set_mark_at : (m : Kind → ℕ → Mark) (k : Kind) (t : ℕ) (x : Mark) → set_mark m k t x k t ≡ x
 set_mark_at m k t x = rw (same_kind_true k k refl, eq_self t) refl
 
-pub set_mark_else : (m : Kind → ℕ → Mark) (k : Kind) (t : ℕ) (x : Mark) (j : Kind) (u : ℕ) → (j ≢ k) ⊎ (u ≢ t) → set_mark m k t x j u ≡ m j u
+pub set_mark_else : (m : Kind → ℕ → Mark) (k : Kind) (t : ℕ) (x : Mark) (j : Kind) (u : ℕ) → (j ≢ k)
+    ⊎ (u ≢ t) → set_mark m k t x j u ≡ m j u
 set_mark_else m k t x j u d =
     ⊎_elim
     (λ n. rw (same_kind_false k j (λ e. n (sym e))) refl)
@@ -50,10 +51,12 @@ set_mark_else m k t x j u d =
 
 -- an edge that is there leads to another place
 pub apart : (s : Setup) → IsProper s → (k : Kind) (t v : ℕ) → has_edge s k t v ≡ true → t ≢ v
-apart s P kind.Steal t v h e = let f : (t == v) ≡ true = rw e (eq_self v) in let n : not (t == v) ≡ true = h in let g : not true ≡ true = rw f at n in cc
+apart s P kind.Steal t v h e = let f : (t == v) ≡ true = rw e (eq_self v) in
+    let n : not (t == v) ≡ true = h in let g : not true ≡ true = rw f at n in cc
 apart s P kind.Line t v h e = let f : has_line s v v ≡ true = rw e at h in let g = P.no_loop v in cc
 
-pub is_there : {I : Type 0} {s : Setup} {k : Kind} {t v : ℕ} {a : Part I} {e : WorldEdge I} → ThiefSide s k t v a e → e ≢ Idle → has_edge s k t v ≡ true
+pub is_there : {I : Type 0} {s : Setup} {k : Kind} {t v : ℕ} {a : Part I} {e : WorldEdge I}
+    → ThiefSide s k t v a e → e ≢ Idle → has_edge s k t v ≡ true
 is_there {s = s} {k = k} {t = t} {v = v} {e = e} T n = go (has_edge s k t v) refl
   where
     go : (b : Bool) → has_edge s k t v ≡ b → has_edge s k t v ≡ true
@@ -61,7 +64,8 @@ is_there {s = s} {k = k} {t = t} {v = v} {e = e} T n = go (has_edge s k t v) ref
     go false q = absurd (n (T.there q))
 
 -- a Clear mark makes no mark Pending
-pub unmarked_put : (ms : List MarkOn) (k : Kind) (t : ℕ) (j : Kind) (u : ℕ) → mark_at ms j u ≢ mark.Pending → mark_at (put_mark ms k t mark.Clear) j u ≢ mark.Pending
+pub unmarked_put : (ms : List MarkOn) (k : Kind) (t : ℕ) (j : Kind) (u : ℕ)
+    → mark_at ms j u ≢ mark.Pending → mark_at (put_mark ms k t mark.Clear) j u ≢ mark.Pending
 unmarked_put ms k t j u n = go (same_kind k j && (t == u))
   where
     go : (b : Bool) → cond b mark.Clear (mark_at ms j u) ≢ mark.Pending

@@ -20,21 +20,30 @@ use Rattle.glb_core.specs.declared.event.Event.{Event}
 use Rattle.glb_core.specs.declared.event.Event.TheVariants as event
 
 -- all items done, counted
-pub done_count : {I : Type 0} (s : Setup) (w : World I) → IsLawful s w → length (all_done s w) ≡ across s w (λ a. a.count.items)
+pub done_count : {I : Type 0} (s : Setup) (w : World I) → IsLawful s w
+    → length (all_done s w) ≡ across s w (λ a. a.count.items)
 done_count {I} s w L = go s.places (λ p l. (L.inner p l).items)
   where
-    go : (n : ℕ) → ((p : ℕ) → p < n → (w.place p).count.items ≡ length (w.place p).done) → length (join_to n (λ p. (w.place p).done)) ≡ sum_to n (λ p. (w.place p).count.items)
+    go : (n : ℕ) → ((p : ℕ) → p < n → (w.place p).count.items ≡ length (w.place p).done)
+        → length (join_to n (λ p. (w.place p).done)) ≡ sum_to n (λ p. (w.place p).count.items)
     go zero h = refl
-    go (suc n) h = let a = go n (λ p l. h p (omega arith)) in let b = h n (omega arith) in let c = length-append (join_to n (λ p. (w.place p).done)) (w.place n).done in omega arith
+    go (suc n) h = let a = go n (λ p l. h p (omega arith)) in let b = h n (omega arith) in
+        let c = length-append (join_to n (λ p. (w.place p).done)) (w.place n).done in omega arith
 
-module _ {I : Type 0} (children : I → List I) (s : Setup) (bags : ℕ → List I) (P : IsProper s) (A : AwakeBy s bags) where
+module _ {I : Type 0} (children : I → List I) (s : Setup) (bags : ℕ → List I) (P : IsProper s)
+    (A : AwakeBy s bags) where
   pub run_lawful : (es : List Event) (w : World I) → Run children s (start s bags) es w → IsLawful s w
   run_lawful es w r = run_keeps children s (start s bags) es w P (start_lawful s bags A) r
 
-  pub run_lawful_from : (es : List Event) (w : World I) → Run children s (start s bags) es w → IsLawfulFrom children (join_to s.places bags) s w
-  run_lawful_from es w r = (run_lawful es w r, run_expands children (join_to s.places bags) s (start s bags) es w r (start_expands children s bags))
+  pub run_lawful_from : (es : List Event) (w : World I) → Run children s (start s bags) es w
+      → IsLawfulFrom children (join_to s.places bags) s w
+  run_lawful_from es w r = (
+    run_lawful es w r,
+    run_expands children (join_to s.places bags) s (start s bags) es w r (start_expands children s bags),
+  )
 
-  pub run_bounded : (es : List Event) (w : World I) → NoHalt es → Run children s (start s bags) es w → length es ≤ bound s (across s w (λ a. a.count.items))
+  pub run_bounded : (es : List Event) (w : World I) → NoHalt es → Run children s (start s bags) es w
+      → length es ≤ bound s (across s w (λ a. a.count.items))
   run_bounded es w n r =
       let L = run_lawful es w r in
       let a = rank_le s w P L P.some in
@@ -42,18 +51,24 @@ module _ {I : Type 0} (children : I → List I) (s : Setup) (bags : ℕ → List
       omega arith
 
   -- in a run over small trees no more items are done than the trees have
-  pub done_small : (most : ℕ) → IsSmall children (join_to s.places bags) most → (es : List Event) (w : World I) → Run children s (start s bags) es w → across s w (λ a. a.count.items) ≤ most
+  pub done_small : (most : ℕ) → IsSmall children (join_to s.places bags) most
+      → (es : List Event) (w : World I) → Run children s (start s bags) es w
+      → across s w (λ a. a.count.items) ≤ most
   done_small most small es w r =
       let L = run_lawful_from es w r in
       let n = never_more children (join_to s.places bags) (all_done s w) (all_left s w) most L.1 small in
       let c = done_count s w L.0 in
       omega arith
 
-  pub run_bounded_on : (most : ℕ) → IsSmall children (join_to s.places bags) most → (es : List Event) (w : World I) → NoHalt es → Run children s (start s bags) es w → length es ≤ bound s most
+  pub run_bounded_on : (most : ℕ) → IsSmall children (join_to s.places bags) most
+      → (es : List Event) (w : World I) → NoHalt es → Run children s (start s bags) es w
+      → length es ≤ bound s most
   run_bounded_on most small es w n r =
       let a = run_bounded es w n r in
       let d = done_small most small es w r in
-      let m : (across s w (λ a. a.count.items) + s.places) * (7 * s.tries + 11 * s.dimension + 2 * s.places + 3) ≤ bound s most = mul-le-mul_right (7 * s.tries + 11 * s.dimension + 2 * s.places + 3) (omega arith) in
+      let m : (across s w (λ a. a.count.items) + s.places) *
+      (7 * s.tries + 11 * s.dimension + 2 * s.places + 3) ≤ bound s most =
+      mul-le-mul_right (7 * s.tries + 11 * s.dimension + 2 * s.places + 3) (omega arith) in
       omega arith
 
   -- nothing but Halt is enabled any more, at some world up to this one, and it stays
@@ -73,11 +88,13 @@ module _ {I : Type 0} (children : I → List I) (s : Setup) (bags : ℕ → List
     halts_not : NoHalt events
     led : Run children s (start s bags) events (worlds n)
 
-  no_halt_then : (es : List Event) (e : Event) → NoHalt es → ((p n : ℕ) → e ≢ event.Halt p n) → NoHalt (es ++ e ∷ [])
+  no_halt_then : (es : List Event) (e : Event) → NoHalt es → ((p n : ℕ) → e ≢ event.Halt p n)
+      → NoHalt (es ++ e ∷ [])
   no_halt_then [] e h n = (n, tt)
   no_halt_then (x ∷ es) e h n = (h.0, no_halt_then es e h.1 n)
 
-  next_of : (worlds : ℕ → World I) → RunsOn children s worlds → (n : ℕ) → Going worlds n → Going worlds (suc n) ⊎ Ended worlds n
+  next_of : (worlds : ℕ → World I) → RunsOn children s worlds → (n : ℕ) → Going worlds n
+      → Going worlds (suc n) ⊎ Ended worlds n
   next_of worlds R n g = ⊎_elim
       (λ x. inl (record {
         events = g.events ++ x.0 ∷ [];
@@ -85,31 +102,55 @@ module _ {I : Type 0} (children : I → List I) (s : Setup) (bags : ℕ → List
         halts_not = no_halt_then g.events x.0 g.halts_not x.1;
         led = run_then children s (start s bags) (worlds n) (worlds (suc n)) g.events x.0 g.led x.2;
       }))
-      (λ x. inr (record { at = n; within = omega arith; events = g.events; halts_not = g.halts_not; led = g.led; stuck = x.0; stays = refl }))
+      (λ x. inr (record {
+        at = n;
+        within = omega arith;
+        events = g.events;
+        halts_not = g.halts_not;
+        led =
+            g.led;
+        stuck = x.0;
+        stays = refl;
+      }))
       (R.goes_on n)
 
   -- a world at which nothing but Halt is enabled stays
-  stays_stuck : (worlds : ℕ → World I) → RunsOn children s worlds → (n : ℕ) → Ended worlds n → Ended worlds (suc n)
+  stays_stuck : (worlds : ℕ → World I) → RunsOn children s worlds → (n : ℕ) → Ended worlds n
+      → Ended worlds (suc n)
   stays_stuck worlds R n x =
       let same : worlds (suc n) ≡ worlds n = ⊎_elim
-      (λ y. absurd (let k : IsStuck s (worlds n) = rw x.stays x.stuck in k y.0 y.1 y.2.in_range y.2.enabled))
+      (λ y. absurd (let k : IsStuck s (worlds n) = rw x.stays x.stuck
+      in k y.0 y.1 y.2.in_range y.2.enabled))
       (λ y. y.1)
       (R.goes_on n) in
       let l = x.within in
-      record { at = x.at; within = omega arith; events = x.events; halts_not = x.halts_not; led = x.led; stuck = x.stuck; stays = same ∙ x.stays }
+      record {
+        at = x.at;
+        within = omega arith;
+        events = x.events;
+        halts_not = x.halts_not;
+        led = x.led;
+        stuck = x.stuck;
+        stays = same ∙ x.stays;
+      }
 
-  going_or_ended : (worlds : ℕ → World I) → worlds 0 ≡ start s bags → RunsOn children s worlds → (n : ℕ) → Going worlds (suc n) ⊎ Ended worlds n
-  going_or_ended worlds first R zero = next_of worlds R zero (record { events = []; number = refl; halts_not = tt; led = first })
+  going_or_ended : (worlds : ℕ → World I) → worlds 0 ≡ start s bags → RunsOn children s worlds → (n : ℕ)
+      → Going worlds (suc n) ⊎ Ended worlds n
+  going_or_ended worlds first R zero =
+      next_of worlds R zero (record { events = []; number = refl; halts_not = tt; led = first })
   going_or_ended worlds first R (suc n) = ⊎_elim
       (λ g. next_of worlds R (suc n) g)
       (λ x. inr (stays_stuck worlds R n x))
       (going_or_ended worlds first R n)
 
   -- a run over small trees that goes on while it can has ended after at most so many events
-  pub runs_end : (most : ℕ) → IsSmall children (join_to s.places bags) most → (worlds : ℕ → World I) → worlds 0 ≡ start s bags → RunsOn children s worlds →
+  pub runs_end : (most : ℕ) → IsSmall children (join_to s.places bags) most → (worlds : ℕ → World I)
+      → worlds 0 ≡ start s bags → RunsOn children s worlds →
       ((worlds (bound s most)).live ≡ 0) × AllGone s (worlds (bound s most))
   runs_end most small worlds first R = ⊎_elim
-      (λ g. absurd (let b = run_bounded_on most small g.events (worlds (suc (bound s most))) g.halts_not g.led in let n = g.number in omega arith))
+      (λ g. absurd (let b =
+      run_bounded_on most small g.events (worlds (suc (bound s most))) g.halts_not g.led in
+      let n = g.number in omega arith))
       (λ x.
       let L = run_lawful x.events (worlds x.at) x.led in
       let z = run_stop children s (start s bags) x.events (worlds x.at) x.halts_not x.led in

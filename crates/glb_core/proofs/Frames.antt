@@ -29,26 +29,37 @@ abbrev pub Else : EdgeName → Kind → ℕ → ℕ → Type 0
 Else c k t v = (k ≢ c.kind) ⊎ (t ≢ c.thief) ⊎ (v ≢ c.victim)
 
 -- the cell, or not
-pub name_cases : (c : EdgeName) (k : Kind) (t v : ℕ) → ((k ≡ c.kind) × (t ≡ c.thief) × (v ≡ c.victim)) ⊎ Else c k t v
+pub name_cases : (c : EdgeName) (k : Kind) (t v : ℕ) → ((k ≡ c.kind) × (t ≡ c.thief) × (v ≡ c.victim))
+    ⊎ Else c k t v
 name_cases c k t v = grind (arith, kind_cases k c.kind, cases_eq t c.thief, cases_eq v c.victim)
 
-module _ {I : Type 0} (s : Setup) (old new : World I) (p : ℕ) (c : EdgeName) (b : Change I) (h : Becomes old new p c b) where
-  pub across_change : (f : Part I → ℕ) → p < s.places → across s new f + f (old.place p) ≡ across s old f + f b.place
-  across_change f l = sum_change s.places p (λ q. f (old.place q)) (λ q. f (new.place q)) l (λ q m d. ap f (h.other_places q d)) ∙ ap (λ x. across s old f + f x) h.place
+module _ {I : Type 0} (s : Setup) (old new : World I) (p : ℕ) (c : EdgeName) (b : Change I)
+    (h : Becomes old new p c b) where
+  pub across_change : (f : Part I → ℕ) → p < s.places
+      → across s new f + f (old.place p) ≡ across s old f + f b.place
+  across_change f l =
+      sum_change s.places p (λ q. f (old.place q)) (λ q. f (new.place q)) l
+      (λ q m d. ap f (h.other_places q d)) ∙ ap (λ x. across s old f + f x) h.place
 
   -- sums over edges, each weighed by its victim's number too
-  pub own_else : (g : ℕ → WorldEdge I → ℕ) (k : Kind) (t : ℕ) → (k ≢ c.kind) ⊎ (t ≢ c.thief) → sum_to s.places (λ v. g v (new.edge k t v)) ≡ sum_to s.places (λ v. g v (old.edge k t v))
-  own_else g k t d = sum_same s.places (λ v. g v (old.edge k t v)) (λ v. g v (new.edge k t v)) (λ v l. ap (g v) (h.other_edges k t v (⊎_elim (λ x. inl x) (λ x. inr (inl x)) d)))
+  pub own_else : (g : ℕ → WorldEdge I → ℕ) (k : Kind) (t : ℕ) → (k ≢ c.kind) ⊎ (t ≢ c.thief)
+      → sum_to s.places (λ v. g v (new.edge k t v)) ≡ sum_to s.places (λ v. g v (old.edge k t v))
+  own_else g k t d = sum_same s.places (λ v. g v (old.edge k t v)) (λ v. g v (new.edge k t v))
+      (λ v l. ap (g v) (h.other_edges k t v (⊎_elim (λ x. inl x) (λ x. inr (inl x)) d)))
 
   pub own_named : (g : ℕ → WorldEdge I → ℕ) → c.victim < s.places →
       sum_to s.places (λ v. g v (new.edge c.kind c.thief v)) + g c.victim (old.edge c.kind c.thief c.victim)
       ≡ sum_to s.places (λ v. g v (old.edge c.kind c.thief v)) + g c.victim b.edge
   own_named g l =
-      sum_change s.places c.victim (λ v. g v (old.edge c.kind c.thief v)) (λ v. g v (new.edge c.kind c.thief v)) l (λ v m d. ap (g v) (h.other_edges c.kind c.thief v (inr (inr d))))
+      sum_change s.places c.victim (λ v. g v (old.edge c.kind c.thief v))
+      (λ v. g v (new.edge c.kind c.thief v)) l
+      (λ v m d. ap (g v) (h.other_edges c.kind c.thief v (inr (inr d))))
       ∙ ap (λ x. sum_to s.places (λ v. g v (old.edge c.kind c.thief v)) + g c.victim x) h.edge
 
   -- where the weight of the cell stays, so does each thief's sum
-  pub own_kept : (g : ℕ → WorldEdge I → ℕ) (k : Kind) (t : ℕ) → c.victim < s.places → g c.victim b.edge ≡ g c.victim (old.edge c.kind c.thief c.victim) → sum_to s.places (λ v. g v (new.edge k t v)) ≡ sum_to s.places (λ v. g v (old.edge k t v))
+  pub own_kept : (g : ℕ → WorldEdge I → ℕ) (k : Kind) (t : ℕ) → c.victim < s.places
+      → g c.victim b.edge ≡ g c.victim (old.edge c.kind c.thief c.victim)
+      → sum_to s.places (λ v. g v (new.edge k t v)) ≡ sum_to s.places (λ v. g v (old.edge k t v))
   own_kept g k t l e =
       sum_same s.places (λ v. g v (old.edge k t v)) (λ v. g v (new.edge k t v)) (λ v m.
       ⊎_elim
@@ -57,18 +68,27 @@ module _ {I : Type 0} (s : Setup) (old new : World I) (p : ℕ) (c : EdgeName) (
       (name_cases c k t v))
 
   pub over_change : (g : WorldEdge I → ℕ) (k : Kind) → c.thief < s.places → c.victim < s.places →
-      over s new k g + pick k c.kind (g (old.edge c.kind c.thief c.victim)) ≡ over s old k g + pick k c.kind (g b.edge)
+      over s new k g + pick k c.kind (g (old.edge c.kind c.thief c.victim)) ≡ over s old k g + pick k
+      c.kind (g b.edge)
   over_change g k l m =
       ⊎_elim
-      (λ (e : k ≡ c.kind). subst (λ j. over s new j g + pick j c.kind (g (old.edge c.kind c.thief c.victim)) ≡ over s old j g + pick j c.kind (g b.edge)) (sym e) (rw (same c.kind (g (old.edge c.kind c.thief c.victim)), same c.kind (g b.edge))
+      (λ (e : k ≡ c.kind).
+      subst (λ j. over s new j g + pick j c.kind (g (old.edge c.kind c.thief c.victim)) ≡ over s old j
+      g + pick j c.kind (g b.edge)) (sym e)
+      (rw (same c.kind (g (old.edge c.kind c.thief c.victim)), same c.kind (g b.edge))
       (let f : ℕ → ℕ = λ t. own s old c.kind t g in
       let f' : ℕ → ℕ = λ t. own s new c.kind t g in
-      let e1 : sum_to s.places f' + f c.thief ≡ sum_to s.places f + f' c.thief = sum_change s.places c.thief f f' l (λ t b d. own_else (λ v. g) c.kind t (inr d)) in
-      let e2 : f' c.thief + g (old.edge c.kind c.thief c.victim) ≡ f c.thief + g b.edge = own_named (λ v. g) m in
+      let e1 : sum_to s.places f' + f c.thief ≡ sum_to s.places f + f' c.thief =
+      sum_change s.places c.thief f f' l (λ t b d. own_else (λ v. g) c.kind t (inr d)) in
+      let e2 : f' c.thief + g (old.edge c.kind c.thief c.victim) ≡ f c.thief + g b.edge =
+      own_named (λ v. g) m in
       omega arith)))
       (λ (d : k ≢ c.kind).
-      let e1 : over s new k g ≡ over s old k g = sum_same s.places (λ t. own s old k t g) (λ t. own s new k t g) (λ t b. own_else (λ v. g) k t (inl d)) in
-      rw (other k c.kind (g (old.edge c.kind c.thief c.victim)) d, other k c.kind (g b.edge) d) (omega arith))
+      let e1 : over s new k g ≡ over s old k g =
+      sum_same s.places (λ t. own s old k t g) (λ t. own s new k t g)
+      (λ t b. own_else (λ v. g) k t (inl d)) in
+      rw (other k c.kind (g (old.edge c.kind c.thief c.victim)) d, other k c.kind (g b.edge) d)
+      (omega arith))
       (kind_cases k c.kind)
     where
       same : (j : Kind) (n : ℕ) → pick j j n ≡ n

@@ -17,18 +17,21 @@ use Rattle.glb_core.specs.declared.kinds.Credit.TheVariants as credit
 use Rattle.glb_core.specs.declared.event.Event.{Event}
 
 module _ {I : Type 0} (children : I → List I) (s : Setup) where
-  pub run_then : (old mid new : World I) (es : List Event) (e : Event) → Run children s old es mid → Step children s mid e new → Run children s old (es ++ e ∷ []) new
+  pub run_then : (old mid new : World I) (es : List Event) (e : Event) → Run children s old es mid
+      → Step children s mid e new → Run children s old (es ++ e ∷ []) new
   run_then old mid new [] e r st = (new, subst (λ w. Step children s w e new) r st, refl)
   run_then old mid new (x ∷ es) e r st = (r.0, r.1, run_then r.0 mid new es e r.2 st)
 
   -- a history goes on by a step
-  pub goes_on : (first w new : World I) (e : Event) → Reaches children s first w → Step children s w e new → Reaches children s first new
+  pub goes_on : (first w new : World I) (e : Event) → Reaches children s first w → Step children s w e new
+      → Reaches children s first new
   goes_on first w new e h st = (h.0 ++ e ∷ [], run_then first w new h.0 e h.1 st)
 
   pub begins : (first : World I) → Reaches children s first first
   begins first = ([], refl)
 
-  pub past_lawful : (bags : ℕ → List I) (w : World I) → IsProper s → AwakeBy s bags → Reaches children s (start s bags) w → IsLawful s w
+  pub past_lawful : (bags : ℕ → List I) (w : World I) → IsProper s → AwakeBy s bags
+      → Reaches children s (start s bags) w → IsLawful s w
   past_lawful bags w P a h = run_keeps children s (start s bags) h.0 w P (start_lawful s bags a) h.1
 
 worth_most : (c : Credit) → worth c ≤ 2
@@ -47,9 +50,14 @@ loots_most (Loot xs) = omega arith
 -- at most 64 places never have more live than fits in a word by far
 pub live_small : {I : Type 0} (s : Setup) (w : World I) → s.places ≤ 64 → IsLawful s w → w.live ≤ 8320
 live_small s w few L =
-    let a : across s w (λ x. worth x.credit) ≤ s.places * 2 = sum_most s.places 2 (λ p. worth (w.place p).credit) (λ p l. worth_most (w.place p).credit) in
-    let row : (k : Kind) (t : ℕ) → own s w k t loots ≤ s.places * 1 = λ k t. sum_most s.places 1 (λ v. loots (w.edge k t v)) (λ v l. loots_most (w.edge k t v)) in
-    let all : (k : Kind) → over s w k loots ≤ s.places * (s.places * 1) = λ k. sum_most s.places (s.places * 1) (λ t. own s w k t loots) (λ t l. row k t) in
+    let a : across s w (λ x. worth x.credit) ≤ s.places * 2 =
+    sum_most s.places 2 (λ p. worth (w.place p).credit) (λ p l. worth_most (w.place p).credit) in
+    let row : (k : Kind) (t : ℕ)
+    → own s w k t loots ≤ s.places * 1 = λ k t.
+    sum_most s.places 1 (λ v. loots (w.edge k t v)) (λ v l. loots_most (w.edge k t v)) in
+    let all : (k : Kind)
+    → over s w k loots ≤ s.places * (s.places * 1) = λ k.
+    sum_most s.places (s.places * 1) (λ t. own s w k t loots) (λ t l. row k t) in
     let one : s.places * 1 ≤ 64 = omega arith in
     let square : s.places * (s.places * 1) ≤ 64 * 64 = mul-le-mul few one in
     let x = all kind.Steal in

@@ -47,7 +47,13 @@ wide : (a n k : ℕ) → a ≡ capped_wide n → capped_wide (a + k) ≡ capped_
 wide a n k e = omega arith
 
 counted_given : (k : Kind) (u : ℕ) (c : Counters) (n : Counts) → c ≡ counters_of n
-    → count_given k u c ≡ counters_of (record n { given = n.given + of_kind k 1 0; line_given = n.line_given + of_kind k 0 1; sent_units = n.sent_units + u })
+    → count_given k u c ≡ counters_of
+    (record n {
+      given = n.given + of_kind k 1 0;
+      line_given = n.line_given + of_kind k 0 1;
+      sent_units =
+          n.sent_units + u;
+    })
 counted_given kind.Steal u c n e =
     let f = more c.given n.given 1 (ap (λ x. x.given) e) in
     let h = same c.line_given n.line_given (ap (λ x. x.line_given) e) in
@@ -60,7 +66,14 @@ counted_given kind.Line u c n e =
     λ i. record (e i) { given = f i; line_given = h i; sent_units = v i }
 
 counted_got : (k : Kind) (u w : ℕ) (c : Counters) (n : Counts) → c ≡ counters_of n
-    → count_got k u w c ≡ counters_of (record n { got = n.got + of_kind k 1 0; line_got = n.line_got + of_kind k 0 1; got_units = n.got_units + u; wakes = n.wakes + w })
+    → count_got k u w c ≡ counters_of
+    (record n {
+      got = n.got + of_kind k 1 0;
+      line_got = n.line_got + of_kind k 0 1;
+      got_units =
+          n.got_units + u;
+      wakes = n.wakes + w;
+    })
 counted_got kind.Steal u w c n e =
     let f = more c.got n.got 1 (ap (λ x. x.got) e) in
     let h = same c.line_got n.line_got (ap (λ x. x.line_got) e) in
@@ -74,14 +87,19 @@ counted_got kind.Line u w c n e =
     let y = more c.wakes n.wakes w (ap (λ x. x.wakes) e) in
     λ i. record (e i) { got = f i; line_got = h i; got_units = v i; wakes = y i }
 
-counted_items : (k : ℕ) (c : Counters) (n : Counts) → c ≡ counters_of n → record c { items = capped (c.items + k) } ≡ counters_of (record n { items = n.items + k })
-counted_items k c n e = let f = more c.items n.items k (ap (λ x. x.items) e) in λ i. record (e i) { items = f i }
+counted_items : (k : ℕ) (c : Counters) (n : Counts) → c ≡ counters_of n
+    → record c { items = capped (c.items + k) } ≡ counters_of (record n { items = n.items + k })
+counted_items k c n e = let f = more c.items n.items k (ap (λ x. x.items) e)
+    in λ i. record (e i) { items = f i }
 
 module _ {B I : Type 0} (items : B → List I) (seed n most : ℕ) (r r2 : Seat B) (a : Part I) where
-  pub given_part : (q t : ℕ) (k : Kind) (z : Slot B) (found : _) → ShowsPart items seed n q r a → t < n → (G : GivesPart items k (mark_index n k t) r r2 z)
-      → ShowsPart items seed n q r2 (place_after most (event.Give q t k) (items G.part) (items r2.bag) found a)
+  pub given_part : (q t : ℕ) (k : Kind) (z : Slot B) (found : _) → ShowsPart items seed n q r a → t < n
+      → (G : GivesPart items k (mark_index n k t) r r2 z)
+      → ShowsPart items seed n q r2
+      (place_after most (event.Give q t k) (items G.part) (items r2.bag) found a)
   given_part q t k z found R l G =
-      subst (λ y. ShowsPart items seed n q y (place_after most (event.Give q t k) (items G.part) (items r2.bag) found a)) (sym G.seat)
+      subst (λ y. ShowsPart items seed n q y
+      (place_after most (event.Give q t k) (items G.part) (items r2.bag) found a)) (sym G.seat)
       (record {
         same_phase = R.same_phase;
         same_credit = refl;
@@ -94,10 +112,13 @@ module _ {B I : Type 0} (items : B → List I) (seed n most : ℕ) (r r2 : Seat 
         victim = R.victim;
       })
 
-  pub taken_part : (p v : ℕ) (k : Kind) (z : Slot B) (found : _) → ShowsPart items seed n p r a → (T : TakesPart items k r r2 z)
-      → ShowsPart items seed n p r2 (place_after most (event.Take p v k) (items T.part) (items r2.bag) found a)
+  pub taken_part : (p v : ℕ) (k : Kind) (z : Slot B) (found : _) → ShowsPart items seed n p r a
+      → (T : TakesPart items k r r2 z)
+      → ShowsPart items seed n p r2
+      (place_after most (event.Take p v k) (items T.part) (items r2.bag) found a)
   taken_part p v k z found R T =
-      subst (λ y. ShowsPart items seed n p y (place_after most (event.Take p v k) (items T.part) (items r2.bag) found a)) (sym T.seat)
+      subst (λ y. ShowsPart items seed n p y
+      (place_after most (event.Take p v k) (items T.part) (items r2.bag) found a)) (sym T.seat)
       (record {
         same_phase = refl;
         same_credit = ap took R.same_credit;
@@ -105,17 +126,25 @@ module _ {B I : Type 0} (items : B → List I) (seed n most : ℕ) (r r2 : Seat 
         bag = IsPermutation-refl (items r2.bag);
         many = R.many;
         marks = R.marks;
-        counters = ap (λ y. count_got k (units_in items T.part) (slept y) r.counters) R.same_phase ∙ counted_got k (units_in items T.part) (slept a.phase) r.counters a.count R.counters;
+        counters = ap (λ y. count_got k (units_in items T.part) (slept y) r.counters) R.same_phase
+            ∙ counted_got k (units_in items T.part) (slept a.phase) r.counters a.count R.counters;
         words = R.words;
         victim = R.victim;
       })
 
-  pub worked_part : (p : ℕ) (taken : List I) (found : _) → ShowsPart items seed n p r a → AfterBatch items most (length taken) r r2
+  pub worked_part : (p : ℕ) (taken : List I) (found : _) → ShowsPart items seed n p r a
+      → AfterBatch items most (length taken) r r2
       → ShowsPart items seed n p r2 (place_after most (event.Batch p) taken (items r2.bag) found a)
   worked_part p taken found R W =
-      let ms : (k : Kind) (t : ℕ) → t < n → get_or r2.marks.items (mark_index n k t) mark.Unseen ≡ mark.Unseen = λ k t l. ap (λ xs. get_or xs (mark_index n k t) mark.Unseen) W.marks ∙ get_or-replicate (length r.marks.items) (mark_index n k t) mark.Unseen mark.Unseen (let m = R.many in omega (arith, mark_below n k t l)) in
-      let long : length r2.marks.items ≡ 2 * n = ap length W.marks ∙ length-replicate (length r.marks.items) mark.Unseen ∙ R.many in
-      subst (λ y. ShowsPart items seed n p y (place_after most (event.Batch p) taken (items r2.bag) found a)) (sym W.seat)
+      let ms : (k : Kind) (t : ℕ) → t < n
+      → get_or r2.marks.items (mark_index n k t) mark.Unseen ≡ mark.Unseen = λ k t l.
+      ap (λ xs. get_or xs (mark_index n k t) mark.Unseen) W.marks
+      ∙ get_or-replicate (length r.marks.items) (mark_index n k t) mark.Unseen mark.Unseen
+      (let m = R.many in omega (arith, mark_below n k t l)) in
+      let long : length r2.marks.items ≡ 2 * n = ap length W.marks
+      ∙ length-replicate (length r.marks.items) mark.Unseen ∙ R.many in
+      subst (λ y. ShowsPart items seed n p y
+      (place_after most (event.Batch p) taken (items r2.bag) found a)) (sym W.seat)
       (record {
         same_phase = refl;
         same_credit = R.same_credit;
@@ -133,7 +162,8 @@ set_same [] i d = refl
 set_same (y ∷ ys) zero d = refl
 set_same (y ∷ ys) (suc i) d = ap (λ l. y ∷ l) (set_same ys i d)
 
-combined_none : {I V : Type 0} (value : I → V) (combine : V → V → V) (start : V) (xs : List I) → length xs ≡ 0 → combined value combine start xs ≡ start
+combined_none : {I V : Type 0} (value : I → V) (combine : V → V → V) (start : V) (xs : List I)
+    → length xs ≡ 0 → combined value combine start xs ≡ start
 combined_none value combine start [] e = refl
 combined_none value combine start (y ∷ ys) e = absurd (omega arith)
 
@@ -142,9 +172,12 @@ rest_none [] e = refl
 rest_none (y ∷ ys) e = absurd (omega arith)
 
 -- the tables stand for the same world where the seat's bag is in another order and the slot shows the same edge
-pub kept_world : {B I V : Type 0} (items : B → List I) (s : Setup) (x : WorldView B V) (w : World I) (S : StandsFor items s x w)
-    (p j : ℕ) (k : Kind) (t v : ℕ) (r2 : Seat B) (z2 : Slot B) (seats : List (Seat B)) (slots : List (Slot B)) (total2 : ℕ) (value2 : V)
-    → total2 ≡ x.total → p < x.cube.places → t < x.cube.places → v < x.cube.places → j ≡ slot_index x.cube.places k t v
+pub kept_world : {B I V : Type 0} (items : B → List I) (s : Setup) (x : WorldView B V) (w : World I)
+    (S : StandsFor items s x w)
+    (p j : ℕ) (k : Kind) (t v : ℕ) (r2 : Seat B) (z2 : Slot B) (seats : List (Seat B))
+    (slots : List (Slot B)) (total2 : ℕ) (value2 : V)
+    → total2 ≡ x.total → p < x.cube.places → t < x.cube.places → v < x.cube.places
+    → j ≡ slot_index x.cube.places k t v
     → seats ≡ set x.seats p r2 → slots ≡ set x.slots j z2
     → ShowsPart items x.params.seed x.cube.places p r2 (w.place p) → edge_in items z2 ≡ w.edge k t v
     → StandsFor items s (changed x seats slots x.live x.stop total2 value2) w
@@ -164,12 +197,24 @@ kept_world items s x w S p j k t v r2 z2 seats slots total2 value2 ht l m n hj h
         seats = rw hp (length-set x.seats p r2 ∙ A.seats);
         slots = rw hs2 (length-set x.slots at z2 ∙ A.slots);
         seat = λ q d b. ⊎_elim
-            (λ (o : q ≡ p). rw (o, hp, get_or-set_same x.seats p r2 d (let a = A.seats in omega arith)) part)
+            (λ (o : q ≡ p). rw (o, hp, get_or-set_same x.seats p r2 d (let a = A.seats in omega arith))
+            part)
             (λ o. rw (hp, get_or-set_other x.seats p q r2 d o) (A.seat q d b))
             (cases_eq q p);
         slot = λ k2 t2 v2 b c. ⊎_elim
-            (λ same. rw (same.0, same.1, same.2, hs2, get_or-set_same x.slots at z2 kept.Idle (let a = A.slots in let u = slot_below x.cube.places k t v m n in omega arith)) edge)
-            (λ o. rw (hs2, get_or-set_other x.slots at (slot_index x.cube.places k2 t2 v2) z2 kept.Idle (slot_apart x.cube.places (name_of k t v) k2 t2 v2 b m o)) (A.slot k2 t2 v2 b c))
+            (λ same. rw (
+              same.0,
+              same.1,
+              same.2,
+              hs2,
+              get_or-set_same x.slots at z2 kept.Idle
+                  (let a = A.slots in let u = slot_below x.cube.places k t v m n in omega arith),
+            ) edge)
+            (λ o. rw (
+              hs2,
+              get_or-set_other x.slots at (slot_index x.cube.places k2 t2 v2) z2 kept.Idle
+                  (slot_apart x.cube.places (name_of k t v) k2 t2 v2 b m o),
+            ) (A.slot k2 t2 v2 b c))
             (name_cases (name_of k t v) k2 t2 v2);
         live = A.live;
         stop = A.stop;
@@ -178,8 +223,10 @@ kept_world items s x w S p j k t v r2 z2 seats slots total2 value2 ht l m n hj h
     }
 
 -- a seat with its bag in another order shows the same part
-pub reordered : {B I : Type 0} (items : B → List I) (seed n p : ℕ) (r r2 : Seat B) (a : Part I) → ShowsPart items seed n p r a
-    → r2 ≡ record r { bag = r2.bag } → IsPermutation (items r2.bag) (items r.bag) → ShowsPart items seed n p r2 a
+pub reordered : {B I : Type 0} (items : B → List I) (seed n p : ℕ) (r r2 : Seat B) (a : Part I)
+    → ShowsPart items seed n p r a
+    → r2 ≡ record r { bag = r2.bag } → IsPermutation (items r2.bag) (items r.bag)
+    → ShowsPart items seed n p r2 a
 reordered items seed n p r r2 a R shape order =
     subst (λ y. ShowsPart items seed n p y a) (sym shape) (record {
       same_phase = R.same_phase;
@@ -193,58 +240,87 @@ reordered items seed n p r r2 a R shape order =
       victim = R.victim;
     })
 
-module _ {B I V : Type 0} (items : B → List I) (children : I → List I) (value : I → V) (combine : V → V → V) (unit : V) (s : Setup) (x : WorldView B V) (w : World I) (S : StandsFor items s x w) where
-  pub gives : (q t : ℕ) (k : Kind) (r r2 : Seat B) (z2 : Slot B) (j at : ℕ) (seats : List (Seat B)) (slots : List (Slot B))
+module _ {B I V : Type 0} (items : B → List I) (children : I → List I) (value : I → V)
+    (combine : V → V → V) (unit : V) (s : Setup) (x : WorldView B V) (w : World I)
+    (S : StandsFor items s x w) where
+  pub gives : (q t : ℕ) (k : Kind) (r r2 : Seat B) (z2 : Slot B) (j at : ℕ) (seats : List (Seat B))
+      (slots : List (Slot B))
       → NamesBelow x.cube.places (event.Give q t k) → IsEnabled s w (event.Give q t k)
       → r ≡ get_or x.seats q r → at ≡ mark_index x.cube.places k t → j ≡ slot_index x.cube.places k t q
       → GivesPart items k at r r2 z2 → seats ≡ set x.seats q r2 → slots ≡ set x.slots j z2
-      → LeadsFrom items children value combine unit x (event.Give q t k) 0 (changed x seats slots x.live x.stop x.total x.value) s w
+      → LeadsFrom items children value combine unit x (event.Give q t k) 0
+      (changed x seats slots x.live x.stop x.total x.value) s w
   gives q t k r r2 z2 j at seats slots below able hr hat hj G hp hs =
       let R = seat_shown items s x w S q q r refl below.0 hr in
-      let G2 : GivesPart items k (mark_index x.cube.places k t) r r2 z2 = subst (λ m. GivesPart items k m r r2 z2) hat G in
+      let G2 : GivesPart items k (mark_index x.cube.places k t) r r2 z2 =
+      subst (λ m. GivesPart items k m r r2 z2) hat G in
       let a = w.place q in
-      stepped items children value combine unit s x w S (event.Give q t k) (items G2.part) (items r2.bag) r2 z2 seats slots x.live x.stop below able tt refl
-      (G2.some, G2.left, IsPermutation-trans a.bag (items r.bag) (items G2.part ++ items r2.bag) (IsPermutation-sym (items r.bag) a.bag R.bag) G2.same)
+      stepped items children value combine unit s x w S (event.Give q t k) (items G2.part) (items r2.bag)
+      r2 z2 seats slots x.live x.stop below able tt refl (
+        G2.some,
+        G2.left,
+        IsPermutation-trans a.bag (items r.bag) (items G2.part ++ items r2.bag)
+            (IsPermutation-sym (items r.bag) a.bag R.bag) G2.same,
+      )
       hp (hs ∙ ap (λ m. set x.slots m z2) hj) refl refl
-      (given_part items x.params.seed x.cube.places s.tries r r2 a q t k z2 (state_of (touched w (event.Give q t k)).edge) R below.1 G2) (ap (edge_in items) G2.slot_is)
+      (given_part items x.params.seed x.cube.places s.tries r r2 a q t k z2
+      (state_of (touched w (event.Give q t k)).edge) R below.1 G2) (ap (edge_in items) G2.slot_is)
 
-  pub takes : (p v : ℕ) (k : Kind) (r r2 : Seat B) (z : Slot B) (j : ℕ) (seats : List (Seat B)) (slots : List (Slot B))
+  pub takes : (p v : ℕ) (k : Kind) (r r2 : Seat B) (z : Slot B) (j : ℕ) (seats : List (Seat B))
+      (slots : List (Slot B))
       → NamesBelow x.cube.places (event.Take p v k) → IsEnabled s w (event.Take p v k)
       → r ≡ get_or x.seats p r → j ≡ slot_index x.cube.places k p v → z ≡ get_or x.slots j z
       → TakesPart items k r r2 z → seats ≡ set x.seats p r2 → slots ≡ set x.slots j kept.Idle
-      → LeadsFrom items children value combine unit x (event.Take p v k) 0 (changed x seats slots x.live x.stop x.total x.value) s w
+      → LeadsFrom items children value combine unit x (event.Take p v k) 0
+      (changed x seats slots x.live x.stop x.total x.value) s w
   takes p v k r r2 z j seats slots below able hr hj hz T hp hs =
       let R = seat_shown items s x w S p p r refl below.0 hr in
       let E = slot_shown items s x w S k p v j z hj below.1 below.2 hz in
       let a = w.place p in
-      stepped items children value combine unit s x w S (event.Take p v k) (items T.part) (items r2.bag) r2 kept.Idle seats slots x.live x.stop below able tt refl (
+      stepped items children value combine unit s x w S (event.Take p v k) (items T.part) (items r2.bag)
+      r2 kept.Idle seats slots x.live x.stop below able tt refl (
         sym E ∙ ap (edge_in items) T.slot_is,
-        IsPermutation-trans (items T.part ++ a.bag) (a.bag ++ items T.part) (items r2.bag) (IsPermutation-append_comm (items T.part) a.bag)
-            (IsPermutation-trans (a.bag ++ items T.part) (items r.bag ++ items T.part) (items r2.bag) (IsPermutation-append_left (items T.part) a.bag (items r.bag) (IsPermutation-sym (items r.bag) a.bag R.bag)) T.merged),
+        IsPermutation-trans (items T.part ++ a.bag) (a.bag ++ items T.part) (items r2.bag)
+            (IsPermutation-append_comm (items T.part) a.bag)
+            (IsPermutation-trans (a.bag ++ items T.part) (items r.bag ++ items T.part) (items r2.bag)
+            (IsPermutation-append_left (items T.part) a.bag (items r.bag)
+            (IsPermutation-sym (items r.bag) a.bag R.bag)) T.merged),
       )
       hp (hs ∙ ap (λ m. set x.slots m kept.Idle) hj) refl refl
-      (taken_part items x.params.seed x.cube.places s.tries r r2 a p v k z (state_of (touched w (event.Take p v k)).edge) R T) refl
+      (taken_part items x.params.seed x.cube.places s.tries r r2 a p v k z
+      (state_of (touched w (event.Take p v k)).edge) R T) refl
 
   -- done lists, with more items done at one place
-  done_more : (p : ℕ) (w2 : World I) (taken : List I) → p < s.places → (w2.place p).done ≡ (w.place p).done ++ taken
-      → ((q : ℕ) → q < s.places → q ≢ p → (w2.place q).done ≡ (w.place q).done) → IsPermutation (all_done s w ++ taken) (all_done s w2)
+  done_more : (p : ℕ) (w2 : World I) (taken : List I) → p < s.places
+      → (w2.place p).done ≡ (w.place p).done ++ taken
+      → ((q : ℕ) → q < s.places → q ≢ p → (w2.place q).done ≡ (w.place q).done)
+      → IsPermutation (all_done s w ++ taken) (all_done s w2)
   done_more p w2 taken l here else =
       let f : ℕ → List I = λ q. (w.place q).done in
       let g : ℕ → List I = λ q. (w2.place q).done in
       let j = join_split s.places p f g l else in
-      let a : IsPermutation (all_done s w ++ taken) ((f p ++ j.0) ++ taken) = IsPermutation-append_left taken (all_done s w) (f p ++ j.0) j.1 in
+      let a : IsPermutation (all_done s w ++ taken) ((f p ++ j.0) ++ taken) =
+      IsPermutation-append_left taken (all_done s w) (f p ++ j.0) j.1 in
       let b : IsPermutation ((f p ++ j.0) ++ taken) ((f p ++ taken) ++ j.0) =
-      rw (append_assoc (f p) j.0 taken, append_assoc (f p) taken j.0) (IsPermutation-append_right (f p) (j.0 ++ taken) (taken ++ j.0) (IsPermutation-append_comm j.0 taken)) in
-      let c : IsPermutation (g p ++ j.0) (all_done s w2) = IsPermutation-sym (all_done s w2) (g p ++ j.0) j.2 in
-      let d : IsPermutation ((f p ++ taken) ++ j.0) (all_done s w2) = subst (λ y. IsPermutation (y ++ j.0) (all_done s w2)) here c in
-      IsPermutation-trans (all_done s w ++ taken) ((f p ++ j.0) ++ taken) (all_done s w2) a (IsPermutation-trans ((f p ++ j.0) ++ taken) ((f p ++ taken) ++ j.0) (all_done s w2) b d)
+      rw (append_assoc (f p) j.0 taken, append_assoc (f p) taken j.0)
+      (IsPermutation-append_right (f p) (j.0 ++ taken) (taken ++ j.0)
+      (IsPermutation-append_comm j.0 taken)) in
+      let c : IsPermutation (g p ++ j.0) (all_done s w2) =
+      IsPermutation-sym (all_done s w2) (g p ++ j.0) j.2 in
+      let d : IsPermutation ((f p ++ taken) ++ j.0) (all_done s w2) =
+      subst (λ y. IsPermutation (y ++ j.0) (all_done s w2)) here c in
+      IsPermutation-trans (all_done s w ++ taken) ((f p ++ j.0) ++ taken) (all_done s w2) a
+      (IsPermutation-trans ((f p ++ j.0) ++ taken) ((f p ++ taken) ++ j.0) (all_done s w2) b d)
 
-  module _ (IsGood : V → Type 0) (laws : MonoidLaws IsGood unit combine) (good : (y : I) → IsGood (value y)) where
+  module _ (IsGood : V → Type 0) (laws : MonoidLaws IsGood unit combine)
+      (good : (y : I) → IsGood (value y)) where
     pub works : (p k : ℕ) (r r2 : Seat B) (value2 : V) (seats : List (Seat B)) (total : ℕ)
         → p < x.cube.places → IsEnabled s w (event.Batch p) → r ≡ get_or x.seats p r
-        → (X : Expands children value combine (items r.bag) x.value k (items r2.bag) value2) → 1 ≤ k → k ≤ s.batch → AfterBatch items s.tries k r r2
+        → (X : Expands children value combine (items r.bag) x.value k (items r2.bag) value2) → 1 ≤ k
+        → k ≤ s.batch → AfterBatch items s.tries k r r2
         → seats ≡ set x.seats p r2 → total ≡ x.total + k
-        → (lead : LeadsFrom items children value combine unit x (event.Batch p) k (changed x seats x.slots x.live x.stop total value2) s w) × (lead.step.rest ≡ items r2.bag)
+        → (lead : LeadsFrom items children value combine unit x (event.Batch p) k
+        (changed x seats x.slots x.live x.stop total value2) s w) × (lead.step.rest ≡ items r2.bag)
     works p k r r2 value2 seats total l able hr X some most W hp ht =
         let e = event.Batch p in
         let n = places_are items s x w S.shows in
@@ -259,20 +335,30 @@ module _ {B I V : Type 0} (items : B → List I) (children : I → List I) (valu
           enabled = able;
           taken = X.taken;
           rest = items r2.bag;
-          choice = ((let q = X.number in omega arith), (let q = X.number in omega arith), moves_before children a.bag (items r.bag) X.taken (items r2.bag) (IsPermutation-sym (items r.bag) a.bag R.bag) X.moves);
+          choice = (
+            (let q = X.number in omega arith),
+            (let q = X.number in omega arith),
+            moves_before children a.bag (items r.bag) X.taken (items r2.bag)
+                (IsPermutation-sym (items r.bag) a.bag R.bag) X.moves,
+          );
           becomes = h;
         } in
-        let W2 : AfterBatch items s.tries (length X.taken) r r2 = subst (λ m. AfterBatch items s.tries m r r2) (sym X.number) W in
+        let W2 : AfterBatch items s.tries (length X.taken) r r2 =
+        subst (λ m. AfterBatch items s.tries m r r2) (sym X.number) W in
         let m : p < s.places = omega arith in
-        let lead : LeadsFrom items children value combine unit x (event.Batch p) k (changed x seats x.slots x.live x.stop total value2) s w = record {
+        let lead : LeadsFrom items children value combine unit x (event.Batch p) k
+        (changed x seats x.slots x.live x.stop total value2) s w = record {
           next = new;
           step = st;
           number = X.number;
           stands = record {
             proper = S.proper;
             lawful = step_keeps children s w new e S.proper S.lawful st;
-            shows = shown items s x w S.shows p (edge_of e) b r2 (get_or x.slots j kept.Idle) seats x.slots x.live x.stop total value2 l l l hp (sym (set_same x.slots j kept.Idle)) S.shows.live S.shows.stop
-                (worked_part items x.params.seed x.cube.places s.tries r r2 a p X.taken (state_of (touched w e).edge) R W2) (S.shows.slot kind.Steal p p l l);
+            shows = shown items s x w S.shows p (edge_of e) b r2 (get_or x.slots j kept.Idle) seats
+                x.slots x.live x.stop total value2 l l l hp (sym (set_same x.slots j kept.Idle))
+                S.shows.live S.shows.stop
+                (worked_part items x.params.seed x.cube.places s.tries r r2 a p X.taken
+                (state_of (touched w e).edge) R W2) (S.shows.slot kind.Steal p p l l);
             total =
                 let change = across_change s w new p (edge_of e) b h (λ y. y.count.items) m in
                 let old = S.total in
@@ -280,13 +366,17 @@ module _ {B I V : Type 0} (items : B → List I) (children : I → List I) (valu
                 omega arith;
           };
           fold = λ f.
-              let order = done_more p new X.taken m (ap (λ y. y.done) h.place) (λ q _ o. ap (λ y. y.done) (h.other_places q o)) in
-              X.value_is ∙ ap (λ v. combined value combine v X.taken) f ∙ sym (combined-append children value combine (all_done s w) X.taken unit)
-              ∙ combined_permutation laws value good (all_done s w ++ X.taken) (all_done s new) order unit laws.unit_proper;
+              let order = done_more p new X.taken m (ap (λ y. y.done) h.place)
+              (λ q _ o. ap (λ y. y.done) (h.other_places q o)) in
+              X.value_is ∙ ap (λ v. combined value combine v X.taken) f
+              ∙ sym (combined-append children value combine (all_done s w) X.taken unit)
+              ∙ combined_permutation laws value good (all_done s w ++ X.taken) (all_done s new) order unit
+              laws.unit_proper;
         } in
         (lead, refl)
 
-pub on_err_3 : {T E A C D Z : Type 0} (r : Result T E) → (A → C → D → Z) → OnErr r A → OnErr r C → OnErr r D → OnErr r Z
+pub on_err_3 : {T E A C D Z : Type 0} (r : Result T E) → (A → C → D → Z) → OnErr r A → OnErr r C
+    → OnErr r D → OnErr r Z
 on_err_3 (Ok v) f a c d = tt
 on_err_3 (Err e) f a c d = f a c d
 
@@ -295,17 +385,26 @@ on_ok_2 (Ok v) f a c = f a c
 on_ok_2 (Err e) f a c = tt
 
 -- what a batch that ran out of memory before the first expansion leaves
-pub stays_at : {B I V : Type 0} (items : B → List I) (children : I → List I) (value : I → V) (combine : V → V → V) (s : Setup) (x : WorldView B V) (w : World I) (S : StandsFor items s x w)
-    (p k : ℕ) (r r2 : Seat B) (value2 : V) (seats : List (Seat B)) (total : ℕ) → p < x.cube.places → r ≡ get_or x.seats p r
-    → (X : Expands children value combine (items r.bag) x.value k (items r2.bag) value2) → k ≡ 0 → r2 ≡ record r { bag = r2.bag }
-    → seats ≡ set x.seats p r2 → total ≡ x.total + k → StandsFor items s (changed x seats x.slots x.live x.stop total value2) w
+pub stays_at : {B I V : Type 0} (items : B → List I) (children : I → List I) (value : I → V)
+    (combine : V → V → V) (s : Setup) (x : WorldView B V) (w : World I) (S : StandsFor items s x w)
+    (p k : ℕ) (r r2 : Seat B) (value2 : V) (seats : List (Seat B)) (total : ℕ) → p < x.cube.places
+    → r ≡ get_or x.seats p r
+    → (X : Expands children value combine (items r.bag) x.value k (items r2.bag) value2) → k ≡ 0
+    → r2 ≡ record r { bag = r2.bag }
+    → seats ≡ set x.seats p r2 → total ≡ x.total + k
+    → StandsFor items s (changed x seats x.slots x.live x.stop total value2) w
 stays_at items children value combine s x w S p k r r2 value2 seats total l hr X none shape hp ht =
     let R = seat_shown items s x w S p p r refl l hr in
     let j = slot_index x.cube.places kind.Steal p p in
     let order = moves_still children (items r.bag) X.taken (items r2.bag) X.moves (X.number ∙ none) in
-    kept_world items s x w S p j kind.Steal p p r2 (get_or x.slots j kept.Idle) seats x.slots total value2 (ht ∙ (let t : x.total + k ≡ x.total = omega arith in t)) l l l refl hp (sym (set_same x.slots j kept.Idle))
-    (reordered items x.params.seed x.cube.places p r r2 (w.place p) R shape (IsPermutation-sym (items r.bag) (items r2.bag) order)) (S.shows.slot kind.Steal p p l l)
+    kept_world items s x w S p j kind.Steal p p r2 (get_or x.slots j kept.Idle) seats x.slots total value2
+    (ht ∙ (let t : x.total + k ≡ x.total = omega arith in t)) l l l refl hp
+    (sym (set_same x.slots j kept.Idle))
+    (reordered items x.params.seed x.cube.places p r r2 (w.place p) R shape
+    (IsPermutation-sym (items r.bag) (items r2.bag) order)) (S.shows.slot kind.Steal p p l l)
 
-pub value_stays : {I V : Type 0} (children : I → List I) (value : I → V) (combine : V → V → V) (before after : List I) (start gain : V) (k : ℕ)
+pub value_stays : {I V : Type 0} (children : I → List I) (value : I → V) (combine : V → V → V)
+    (before after : List I) (start gain : V) (k : ℕ)
     → (X : Expands children value combine before start k after gain) → k ≡ 0 → gain ≡ start
-value_stays children value combine before after start gain k X none = X.value_is ∙ combined_none value combine start X.taken (X.number ∙ none)
+value_stays children value combine before after start gain k X none = X.value_is
+    ∙ combined_none value combine start X.taken (X.number ∙ none)

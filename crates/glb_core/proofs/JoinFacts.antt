@@ -7,13 +7,15 @@ use Rattle.glb_core.specs.Sums.{join_to}
 module _ {I : Type 0} where
   pub join_same : (n : ℕ) (f g : ℕ → List I) → ((j : ℕ) → j < n → g j ≡ f j) → join_to n g ≡ join_to n f
   join_same zero f g h = refl
-  join_same (suc n) f g h = let e = join_same n f g (λ j l. h j (omega arith)) in let d = h n (omega arith) in cc
+  join_same (suc n) f g h = let e = join_same n f g (λ j l. h j (omega arith)) in
+      let d = h n (omega arith) in cc
 
   pub same : {xs ys : List I} → xs ≡ ys → IsPermutation xs ys
   same {xs = xs} e = rw (← e) (IsPermutation-refl xs)
 
   pub join_split : (n i : ℕ) (f g : ℕ → List I) → i < n → ((j : ℕ) → j < n → j ≢ i → g j ≡ f j) →
-      (rest : List I) × IsPermutation (join_to n f) (f i ++ rest) × IsPermutation (join_to n g) (g i ++ rest)
+      (rest : List I) × IsPermutation (join_to n f) (f i ++ rest)
+      × IsPermutation (join_to n g) (g i ++ rest)
   join_split zero i f g l h = absurd (omega arith)
   join_split (suc n) i f g l h =
       ⊎_elim
@@ -27,7 +29,9 @@ module _ {I : Type 0} where
       let r = join_split n i f g (omega arith) (λ j b d. h j (omega arith) d) in
       let d : g n ≡ f n = h n (omega arith) (λ q. e (sym q)) in (
         r.0 ++ f n,
-        rw (← append_assoc (f i) r.0 (f n)) (IsPermutation-append_left (f n) (join_to n f) (f i ++ r.0) r.1),
-        rw (← append_assoc (g i) r.0 (f n), d) (IsPermutation-append_left (f n) (join_to n g) (g i ++ r.0) r.2),
+        rw (← append_assoc (f i) r.0 (f n))
+            (IsPermutation-append_left (f n) (join_to n f) (f i ++ r.0) r.1),
+        rw (← append_assoc (g i) r.0 (f n), d)
+            (IsPermutation-append_left (f n) (join_to n g) (g i ++ r.0) r.2),
       ))
       (cases_eq i n)

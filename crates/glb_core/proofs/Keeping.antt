@@ -14,46 +14,66 @@ use Rattle.glb_core.specs.declared.part.EdgeName.{EdgeName}
 -- what changes in the sums, from part a to part b; k is the kind of the edge
 pub record Balanced {I : Type 0} (k : Kind) (a b : Change I) : Type 0 where
   pub live : b.live + worth a.place.credit + loots a.edge ≡ a.live + worth b.place.credit + loots b.edge
-  pub asks : b.place.count.asks + (a.place.count.denied + a.place.count.given) + pick kind.Steal k (asked a.edge) ≡ a.place.count.asks + (b.place.count.denied + b.place.count.given) + pick kind.Steal k (asked b.edge)
-  pub given : b.place.count.given + a.place.count.got + pick kind.Steal k (loots a.edge) ≡ a.place.count.given + b.place.count.got + pick kind.Steal k (loots b.edge)
-  pub line_given : b.place.count.line_given + a.place.count.line_got + pick kind.Line k (loots a.edge) ≡ a.place.count.line_given + b.place.count.line_got + pick kind.Line k (loots b.edge)
-  pub units : b.place.count.sent_units + a.place.count.got_units + units a.edge ≡ a.place.count.sent_units + b.place.count.got_units + units b.edge
+  pub asks : b.place.count.asks + (a.place.count.denied + a.place.count.given) + pick kind.Steal k
+      (asked a.edge) ≡ a.place.count.asks + (b.place.count.denied + b.place.count.given) + pick kind.Steal
+      k (asked b.edge)
+  pub given : b.place.count.given + a.place.count.got + pick kind.Steal k (loots a.edge) ≡
+      a.place.count.given + b.place.count.got + pick kind.Steal k (loots b.edge)
+  pub line_given : b.place.count.line_given + a.place.count.line_got + pick kind.Line k (loots a.edge) ≡
+      a.place.count.line_given + b.place.count.line_got + pick kind.Line k (loots b.edge)
+  pub units : b.place.count.sent_units + a.place.count.got_units + units a.edge ≡ a.place.count.sent_units
+      + b.place.count.got_units + units b.edge
 
 abbrev pub Wants : {I : Type 0} → Kind → WorldEdge I → Type 0
 Wants k e = (e ≡ Asked) ⊎ ((k ≡ kind.Line) × (e ≡ Refused))
 
 abbrev pub touched_at : {I : Type 0} → World I → ℕ → EdgeName → Change I
-touched_at w p c = record { place = w.place p; edge = w.edge c.kind c.thief c.victim; live = w.live; stop = w.stop }
+touched_at w p c = record
+    { place = w.place p; edge = w.edge c.kind c.thief c.victim; live = w.live; stop = w.stop }
 
 -- what an event owes
-pub record Local {I : Type 0} (s : Setup) (old new : World I) (p : ℕ) (c : EdgeName) (b : Change I) : Type 0 where
+pub record Local {I : Type 0} (s : Setup) (old new : World I) (p : ℕ) (c : EdgeName) (b : Change I) : Type
+    0 where
   pub inner : Inner s p b.place
   pub gone : b.place.phase ≡ phase.Gone → b.stop ≡ 0 → b.live ≡ 0
   pub quiet : b.stop ≡ 0 → (old.stop ≡ 0) × (old.live ≡ 0 → b.live ≡ 0)
-  pub thief_else : (k : Kind) (v : ℕ) → v < s.places → (k ≢ c.kind) ⊎ (p ≢ c.thief) ⊎ (v ≢ c.victim) → ThiefSide s k p v b.place (old.edge k p v)
+  pub thief_else : (k : Kind) (v : ℕ) → v < s.places → (k ≢ c.kind) ⊎ (p ≢ c.thief) ⊎ (v ≢ c.victim)
+      → ThiefSide s k p v b.place (old.edge k p v)
   pub thief_named : ThiefSide s c.kind c.thief c.victim (new.place c.thief) b.edge
-  pub victim_else : (k : Kind) (t : ℕ) → t < s.places → (k ≢ c.kind) ⊎ (t ≢ c.thief) ⊎ (p ≢ c.victim) → VictimSide s k t p b.place (old.edge k t p)
+  pub victim_else : (k : Kind) (t : ℕ) → t < s.places → (k ≢ c.kind) ⊎ (t ≢ c.thief) ⊎ (p ≢ c.victim)
+      → VictimSide s k t p b.place (old.edge k t p)
   pub victim_named : VictimSide s c.kind c.thief c.victim (new.place c.victim) b.edge
   pub can_give : CanGive s new p
   pub wants : c.victim ≢ p → Wants c.kind (old.edge c.kind c.thief c.victim) → Wants c.kind b.edge
-  pub counted : Counted s p b.place (own s new kind.Steal p busy) (own s new kind.Line p busy) (free s new p)
-  pub counted_else : c.thief ≢ p → (busy b.edge ≡ busy (old.edge c.kind c.thief c.victim)) × (idle b.edge ≡ idle (old.edge c.kind c.thief c.victim))
+  pub counted : Counted s p b.place (own s new kind.Steal p busy) (own s new kind.Line p busy)
+      (free s new p)
+  pub counted_else : c.thief ≢ p → (busy b.edge ≡ busy (old.edge c.kind c.thief c.victim))
+      × (idle b.edge ≡ idle (old.edge c.kind c.thief c.victim))
   pub balanced : Balanced c.kind (touched_at old p c) b
 
-module _ {I : Type 0} (s : Setup) (old new : World I) (p : ℕ) (c : EdgeName) (b : Change I) (h : Becomes old new p c b)
+module _ {I : Type 0} (s : Setup) (old new : World I) (p : ℕ) (c : EdgeName) (b : Change I)
+    (h : Becomes old new p c b)
     (pl : p < s.places) (tl : c.thief < s.places) (vl : c.victim < s.places) where
   abbrev free_weight : (q v : ℕ) → WorldEdge I → ℕ
   free_weight q v e = cond (has_line s q v) (idle e) 0
 
   -- q's own sums stay, if q is not the thief of the cell or the cell counts the same
-  own_busy : (k : Kind) (q : ℕ) → (c.thief ≢ q) ⊎ (busy b.edge ≡ busy (old.edge c.kind c.thief c.victim)) → own s new k q busy ≡ own s old k q busy
-  own_busy k q d = ⊎_elim (λ n. own_else s old new p c b h (λ v. busy) k q (inr (λ e. n (sym e)))) (λ e. own_kept s old new p c b h (λ v. busy) k q vl e) d
+  own_busy : (k : Kind) (q : ℕ) → (c.thief ≢ q) ⊎ (busy b.edge ≡ busy (old.edge c.kind c.thief c.victim))
+      → own s new k q busy ≡ own s old k q busy
+  own_busy k q d = ⊎_elim (λ n. own_else s old new p c b h (λ v. busy) k q (inr (λ e. n (sym e))))
+      (λ e. own_kept s old new p c b h (λ v. busy) k q vl e) d
 
-  own_free : (q : ℕ) → (c.thief ≢ q) ⊎ (idle b.edge ≡ idle (old.edge c.kind c.thief c.victim)) → free s new q ≡ free s old q
-  own_free q d = ⊎_elim (λ n. own_else s old new p c b h (free_weight q) kind.Line q (inr (λ e. n (sym e)))) (λ e. own_kept s old new p c b h (free_weight q) kind.Line q vl (ap (λ x. cond (has_line s q c.victim) x 0) e)) d
+  own_free : (q : ℕ) → (c.thief ≢ q) ⊎ (idle b.edge ≡ idle (old.edge c.kind c.thief c.victim))
+      → free s new q ≡ free s old q
+  own_free q d = ⊎_elim
+      (λ n. own_else s old new p c b h (free_weight q) kind.Line q (inr (λ e. n (sym e))))
+      (λ e. own_kept s old new p c b h (free_weight q) kind.Line q vl
+      (ap (λ x. cond (has_line s q c.victim) x 0) e)) d
 
   -- somebody still wants work of q
-  pub wanted_kept : (q : ℕ) → ((c.victim ≡ q) → Wants c.kind (old.edge c.kind c.thief c.victim) → Wants c.kind b.edge) → IsWanted s old q → IsWanted s new q
+  pub wanted_kept : (q : ℕ)
+      → ((c.victim ≡ q) → Wants c.kind (old.edge c.kind c.thief c.victim) → Wants c.kind b.edge)
+      → IsWanted s old q → IsWanted s new q
   wanted_kept q d w = (
     w.0,
     w.1,
@@ -121,7 +141,8 @@ module _ {I : Type 0} (s : Setup) (old new : World I) (p : ℕ) (c : EdgeName) (
 
   pub keeps : IsLawful s old → Local s old new p c b → IsLawful s new
   keeps L l = record {
-    inner = λ q m. ⊎_elim (λ (e : q ≡ p). rw (e, h.place) l.inner) (λ d. rw (h.other_places q d) (L.inner q m)) (cases_eq q p);
+    inner = λ q m. ⊎_elim (λ (e : q ≡ p). rw (e, h.place) l.inner)
+        (λ d. rw (h.other_places q d) (L.inner q m)) (cases_eq q p);
     gone = λ q m. ⊎_elim
         (λ (e : q ≡ p). rw (e, h.place, h.stop, h.live) l.gone)
         (λ d. rw (h.other_places q d, h.stop, h.live) (λ g z. (l.quiet z).1 (L.gone q m g (l.quiet z).0)))
@@ -129,25 +150,32 @@ module _ {I : Type 0} (s : Setup) (old new : World I) (p : ℕ) (c : EdgeName) (
     thief = λ k t v m n. ⊎_elim
         (λ same. rw (same.0, same.1, same.2, h.edge) l.thief_named)
         (λ other. ⊎_elim
-        (λ (e : t ≡ p). rw (h.other_edges k t v other) (rw e (rw h.place (l.thief_else k v n (rw e at other)))))
+        (λ (e : t ≡ p). rw (h.other_edges k t v other)
+        (rw e (rw h.place (l.thief_else k v n (rw e at other)))))
         (λ d. rw (h.other_places t d, h.other_edges k t v other) (L.thief k t v m n))
         (cases_eq t p))
         (name_cases c k t v);
     victim = λ k t v m n. ⊎_elim
         (λ same. rw (same.0, same.1, same.2, h.edge) l.victim_named)
         (λ other. ⊎_elim
-        (λ (e : v ≡ p). rw (h.other_edges k t v other) (rw e (rw h.place (l.victim_else k t m (rw e at other)))))
+        (λ (e : v ≡ p). rw (h.other_edges k t v other)
+        (rw e (rw h.place (l.victim_else k t m (rw e at other)))))
         (λ d. rw (h.other_places v d, h.other_edges k t v other) (L.victim k t v m n))
         (cases_eq v p))
         (name_cases c k t v);
     can_give = λ q m. ⊎_elim
         (λ (e : q ≡ p). rw e l.can_give)
-        (λ d. rw (h.other_places q d) (λ a g. ((L.can_give q m a g).0, wanted_kept q (λ e. l.wants (λ x. d (sym e ∙ x))) (L.can_give q m a g).1)))
+        (λ d. rw (h.other_places q d)
+        (λ a g. (
+          (L.can_give q m a g).0,
+          wanted_kept q (λ e. l.wants (λ x. d (sym e ∙ x))) (L.can_give q m a g).1,
+        )))
         (cases_eq q p);
     counted = λ q m. ⊎_elim
         (λ (e : q ≡ p). rw (e, h.place) l.counted)
         (λ d.
-        let z : (c.thief ≢ q) ⊎ (c.thief ≢ p) = ⊎_elim (λ x. inr (λ y. d (sym x ∙ y))) (λ x. inl x) (cases_eq c.thief q) in
+        let z : (c.thief ≢ q)
+        ⊎ (c.thief ≢ p) = ⊎_elim (λ x. inr (λ y. d (sym x ∙ y))) (λ x. inl x) (cases_eq c.thief q) in
         rw (
           h.other_places q d,
           own_busy kind.Steal q (⊎_elim (λ x. inl x) (λ x. inr (l.counted_else x).0) z),

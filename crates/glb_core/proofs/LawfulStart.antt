@@ -11,7 +11,8 @@ use Rattle.glb_core.specs.declared.kinds.Kind.TheVariants as kind
 use Rattle.glb_core.specs.declared.kinds.Phase.TheVariants as phase
 use Rattle.glb_core.specs.declared.kinds.Credit.TheVariants as credit
 
-first_inner : {I : Type 0} (s : Setup) (bags : ℕ → List I) (p : ℕ) → p < s.places → AwakeBy s bags → Inner s p ((start s bags).place p)
+first_inner : {I : Type 0} (s : Setup) (bags : ℕ → List I) (p : ℕ) → p < s.places → AwakeBy s bags
+    → Inner s p ((start s bags).place p)
 first_inner s bags p l A = record {
   fits = rw (A p l) (go (bags p));
   tries = omega arith;
@@ -24,7 +25,8 @@ first_inner s bags p l A = record {
   unmarked = λ k t n g e. cc;
 }
   where
-    go : {I : Type 0} (xs : List I) → PhaseFits (first_phase (has_items xs)) (first_credit (has_items xs)) (length xs)
+    go : {I : Type 0} (xs : List I)
+        → PhaseFits (first_phase (has_items xs)) (first_credit (has_items xs)) (length xs)
     go [] = (refl, refl)
     go (x ∷ xs) = (omega arith, λ e. cc)
 
@@ -40,7 +42,8 @@ first_inner s bags p l A = record {
     asks true = omega arith
     asks false = omega arith
 
-first_thief : {I : Type 0} (s : Setup) (bags : ℕ → List I) (k : Kind) (t v : ℕ) → ThiefSide s k t v ((start s bags).place t) (first_edge s k t v)
+first_thief : {I : Type 0} (s : Setup) (bags : ℕ → List I) (k : Kind) (t v : ℕ)
+    → ThiefSide s k t v ((start s bags).place t) (first_edge s k t v)
 first_thief s bags kind.Steal t v = record {
   there = λ z. refl;
   steal = λ e d x. refl;
@@ -56,7 +59,10 @@ first_thief s bags kind.Steal t v = record {
     waits false e = cc
 first_thief s bags kind.Line t v = both (s.awake t) (has_line s t v) refl
   where
-    both : (a b : Bool) → has_line s t v ≡ b → ThiefSide s kind.Line t v (record ((start s bags).place t) { phase = first_phase a; credit = first_credit a }) (first_line a b)
+    both : (a b : Bool) → has_line s t v ≡ b
+        → ThiefSide s kind.Line t v
+        (record ((start s bags).place t) { phase = first_phase a; credit = first_credit a })
+        (first_line a b)
     both true b e = record {
       there = λ z. refl;
       steal = λ x. absurd (cc);
@@ -85,7 +91,9 @@ first_thief s bags kind.Line t v = both (s.awake t) (has_line s t v) refl
       loot = λ xs x. absurd (cc);
     }
 
-first_counted : {I : Type 0} (s : Setup) (bags : ℕ → List I) (p : ℕ) → Counted s p ((start s bags).place p) (own s (start s bags) kind.Steal p busy) (own s (start s bags) kind.Line p busy) (free s (start s bags) p)
+first_counted : {I : Type 0} (s : Setup) (bags : ℕ → List I) (p : ℕ)
+    → Counted s p ((start s bags).place p) (own s (start s bags) kind.Steal p busy)
+    (own s (start s bags) kind.Line p busy) (free s (start s bags) p)
 first_counted {I} s bags p = record {
   asks = (let e = sum_zero s.places (λ v. 0) (λ j l. refl) in omega arith);
   lines = lines (s.awake p);
@@ -96,9 +104,12 @@ first_counted {I} s bags p = record {
     line true = refl
     line false = refl
 
-    lines : (a : Bool) → cond a 0 (degree s p) + 0 ≡ 0 + sum_to s.places (λ v. busy (first_line {I = I} a (has_line s p v)))
+    lines : (a : Bool) → cond a 0 (degree s p) + 0 ≡ 0 + sum_to s.places
+        (λ v. busy (first_line {I = I} a (has_line s p v)))
     lines true = let e = sum_zero s.places (λ v. 0) (λ j l. refl) in omega arith
-    lines false = let e = sum_same s.places (λ v. busy (first_line {I = I} false (has_line s p v))) (λ v. bit (has_line s p v)) (λ j l. line (has_line s p j)) in omega arith
+    lines false = let e =
+        sum_same s.places (λ v. busy (first_line {I = I} false (has_line s p v)))
+        (λ v. bit (has_line s p v)) (λ j l. line (has_line s p j)) in omega arith
 
     rests : (a : Bool) (f : ℕ) → 0 + resting (first_phase a) f ≤ degree s p * 0
     rests true f = omega arith
@@ -107,14 +118,17 @@ first_counted {I} s bags p = record {
 first_sums : {I : Type 0} (s : Setup) (bags : ℕ → List I) → Sums s (start s bags)
 first_sums {I} s bags = record {
   live =
-      let a = sum_same s.places (λ p. bit (s.awake p)) (λ p. worth (first_credit (s.awake p))) (λ p l. each (s.awake p)) in
+      let a = sum_same s.places (λ p. bit (s.awake p)) (λ p. worth (first_credit (s.awake p)))
+      (λ p l. each (s.awake p)) in
       let e = none kind.Steal loots (λ t v. refl) in
       let d = none kind.Line loots (λ t v. line (s.awake t) (has_line s t v)) in
       omega arith;
   asks = (let a = zero_places in let e = none kind.Steal asked (λ t v. refl) in omega arith);
   given = (let a = zero_places in let e = none kind.Steal loots (λ t v. refl) in omega arith);
-  line_given = (let a = zero_places in let d = none kind.Line loots (λ t v. line (s.awake t) (has_line s t v)) in omega arith);
-  units = (let a = zero_places in let e = none kind.Steal units (λ t v. refl) in let d = none kind.Line units (λ t v. line2 (s.awake t) (has_line s t v)) in omega arith);
+  line_given = (let a = zero_places in
+      let d = none kind.Line loots (λ t v. line (s.awake t) (has_line s t v)) in omega arith);
+  units = (let a = zero_places in let e = none kind.Steal units (λ t v. refl) in
+      let d = none kind.Line units (λ t v. line2 (s.awake t) (has_line s t v)) in omega arith);
 }
   where
     zero_places : sum_to s.places (λ p. 0) ≡ 0
@@ -124,8 +138,10 @@ first_sums {I} s bags = record {
     each true = refl
     each false = refl
 
-    none : (k : Kind) (g : WorldEdge I → ℕ) → ((t v : ℕ) → g (first_edge s k t v) ≡ 0) → over s (start s bags) k g ≡ 0
-    none k g h = sum_zero s.places (λ t. sum_to s.places (λ v. g (first_edge s k t v))) (λ t l. sum_zero s.places (λ v. g (first_edge s k t v)) (λ v m. h t v))
+    none : (k : Kind) (g : WorldEdge I → ℕ) → ((t v : ℕ) → g (first_edge s k t v) ≡ 0)
+        → over s (start s bags) k g ≡ 0
+    none k g h = sum_zero s.places (λ t. sum_to s.places (λ v. g (first_edge s k t v)))
+        (λ t l. sum_zero s.places (λ v. g (first_edge s k t v)) (λ v m. h t v))
 
     line : (a b : Bool) → loots (first_line {I = I} a b) ≡ 0
     line true b = refl

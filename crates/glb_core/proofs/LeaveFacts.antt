@@ -17,7 +17,8 @@ left (phase.Waiting v k) c n h = λ z. h.0
 left phase.Asleep c n h = λ z. h.0
 left phase.Gone c n h = h
 
-pub leave_keeps : {I : Type 0} (children : I → List I) (s : Setup) (old new : World I) (p : ℕ) → IsLawful s old → Step children s old (Leave p) new → IsLawful s new
+pub leave_keeps : {I : Type 0} (children : I → List I) (s : Setup) (old new : World I) (p : ℕ)
+    → IsLawful s old → Step children s old (Leave p) new → IsLawful s new
 leave_keeps children s old new p L st =
     let l = st.in_range.0 in
     let i = L.inner p l in
@@ -49,11 +50,13 @@ leave_keeps children s old new p L st =
           };
       victim = λ k t m. let o = L.victim k t p m l in record { pending = o.pending; unseen = o.unseen };
       can_give = λ x y. absurd (cc);
-      counted = let o = L.counted p l in record { asks = o.asks; lines = o.lines; line_asks = (let a = o.line_asks in omega arith) };
+      counted = let o = L.counted p l
+          in record { asks = o.asks; lines = o.lines; line_asks = (let a = o.line_asks in omega arith) };
       balanced = record { live = refl; asks = refl; given = refl; line_given = refl; units = refl };
     })
 
-pub halt_keeps : {I : Type 0} (children : I → List I) (s : Setup) (old new : World I) (p n : ℕ) → IsLawful s old → Step children s old (Halt p n) new → IsLawful s new
+pub halt_keeps : {I : Type 0} (children : I → List I) (s : Setup) (old new : World I) (p n : ℕ)
+    → IsLawful s old → Step children s old (Halt p n) new → IsLawful s new
 halt_keeps children s old new p n L st =
     let l = st.in_range.0 in
     let i = L.inner p l in

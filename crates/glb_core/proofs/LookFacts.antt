@@ -20,7 +20,8 @@ looked_asked Asked q = refl
 looked_asked Refused q = absurd (cc)
 looked_asked (Loot xs) q = absurd (cc)
 
-pub look_keeps : {I : Type 0} (children : I → List I) (s : Setup) (old new : World I) (p t : ℕ) (k : Kind) → IsProper s → IsLawful s old → Step children s old (event.Look p t k) new → IsLawful s new
+pub look_keeps : {I : Type 0} (children : I → List I) (s : Setup) (old new : World I) (p t : ℕ) (k : Kind)
+    → IsProper s → IsLawful s old → Step children s old (event.Look p t k) new → IsLawful s new
 look_keeps children s old new p t k P L st =
     let l = st.in_range.0 in
     let m = st.in_range.1 in
@@ -29,17 +30,33 @@ look_keeps children s old new p t k P L st =
     let there : has_edge s k t p ≡ true = st.enabled.1 in
     served s old new p k t _ st.becomes l m L (record {
       apart = apart s P k t p there;
-      inner = record { fits = i.fits; tries = i.tries; items = i.items; naps = i.naps; asks = i.asks; sent = i.sent; wakes = i.wakes; near = i.near; unmarked = λ j u n g. absurd (n working) };
+      inner = record {
+        fits = i.fits;
+        tries = i.tries;
+        items = i.items;
+        naps = i.naps;
+        asks = i.asks;
+        sent = i.sent;
+        wakes = i.wakes;
+        near = i.near;
+        unmarked = λ j u n g. absurd (n working);
+      };
       live = refl;
       stop = refl;
       same_phase = refl;
       not_gone = rw working (λ e. cc);
       same_credit = λ z. z;
       thief_named = L.thief k t p m l;
-      victim_else = λ j u n d. victim_set k t (looked (state_of (old.edge k t p))) j u p refl d (L.victim j u p n l);
-      victim_named = victim_at (old.place p) k t p (looked (state_of (old.edge k t p))) refl (looked_asked (old.edge k t p)) there;
-      can_give = λ x y. ((L.can_give p l x y).0, wanted_kept s old new p (name_of k t p) _ st.becomes l m l p (λ e w. w) (L.can_give p l x y).1);
-      counted = (let o = L.counted p l in record { asks = o.asks; lines = o.lines; line_asks = o.line_asks });
+      victim_else = λ j u n d.
+          victim_set k t (looked (state_of (old.edge k t p))) j u p refl d (L.victim j u p n l);
+      victim_named = victim_at (old.place p) k t p (looked (state_of (old.edge k t p))) refl
+          (looked_asked (old.edge k t p)) there;
+      can_give = λ x y. (
+        (L.can_give p l x y).0,
+        wanted_kept s old new p (name_of k t p) _ st.becomes l m l p (λ e w. w) (L.can_give p l x y).1,
+      );
+      counted = (let o = L.counted p l
+          in record { asks = o.asks; lines = o.lines; line_asks = o.line_asks });
       same_busy = refl;
       same_idle = refl;
       balanced = record { live = refl; asks = refl; given = refl; line_given = refl; units = refl };

@@ -8,7 +8,8 @@ use Rattle.glb_core.specs.declared.kinds.Phase.TheVariants as phase
 use Rattle.glb_core.specs.declared.kinds.Credit.TheVariants as credit
 use Rattle.glb_core.specs.declared.event.Event.TheVariants.{Mint}
 
-pub mint_keeps : {I : Type 0} (children : I → List I) (s : Setup) (old new : World I) (p : ℕ) → IsLawful s old → Step children s old (Mint p) new → IsLawful s new
+pub mint_keeps : {I : Type 0} (children : I → List I) (s : Setup) (old new : World I) (p : ℕ)
+    → IsLawful s old → Step children s old (Mint p) new → IsLawful s new
 mint_keeps children s old new p L st =
     let l = st.in_range.0 in
     let i = L.inner p l in
@@ -18,7 +19,11 @@ mint_keeps children s old new p L st =
     alone s old new p _ st.becomes l L (record {
       edge = refl;
       inner = record {
-        fits = rw working ((let f : PhaseFits phase.Working (old.place p).credit (length (old.place p).bag) = rw working at i.fits in f.0), λ z. cc);
+        fits = rw working (
+          (let f : PhaseFits phase.Working (old.place p).credit
+              (length (old.place p).bag) = rw working at i.fits in f.0),
+          λ z. cc,
+        );
         tries = i.tries;
         items = i.items;
         naps = (let n = rw one at i.naps in n);
@@ -34,5 +39,11 @@ mint_keeps children s old new p L st =
       victim = λ k t m. let o = L.victim k t p m l in record { pending = o.pending; unseen = o.unseen };
       can_give = λ x y. (st.enabled.2, st.enabled.3);
       counted = let o = L.counted p l in record { asks = o.asks; lines = o.lines; line_asks = o.line_asks };
-      balanced = record { live = rw one (omega arith); asks = refl; given = refl; line_given = refl; units = refl };
+      balanced = record {
+        live = rw one (omega arith);
+        asks = refl;
+        given = refl;
+        line_given = refl;
+        units = refl;
+      };
     })

@@ -29,7 +29,8 @@ gone_cases phase.Gone = inl refl
 
 module _ {I : Type 0} (s : Setup) (w : World I) (L : IsLawful s w) where
   -- from here on: nothing is enabled, there was no halt, and live is above 0
-  module _ (P : IsProper s) (one_place : s.places < 2 → s.tries ≡ 0) (S : IsStuck s w) (z : w.stop ≡ 0) (alive : 0 < w.live) where
+  module _ (P : IsProper s) (one_place : s.places < 2 → s.tries ≡ 0) (S : IsStuck s w) (z : w.stop ≡ 0)
+      (alive : 0 < w.live) where
     not_gone : (p : ℕ) → p < s.places → (w.place p).phase ≢ phase.Gone
     not_gone p l g = let e = L.gone p l g z in omega arith
 
@@ -41,9 +42,13 @@ module _ {I : Type 0} (s : Setup) (w : World I) (L : IsLawful s w) where
     one p l f = go (w.place p).credit refl
       where
         go : (c : Credit) → (w.place p).credit ≡ c → (w.place p).credit ≡ credit.One
-        go credit.Zero e = absurd (let g : PhaseFits phase.Working credit.Zero (length (w.place p).bag) = rw (f, e) at (L.inner p l).fits in g.1 refl)
+        go credit.Zero e = absurd
+            (let g : PhaseFits phase.Working credit.Zero (length (w.place p).bag) =
+            rw (f, e) at (L.inner p l).fits in g.1 refl)
         go credit.One e = e
-        go credit.Minted e = absurd (let g = L.can_give p l f e in let y = g.1 in S (event.Give p y.1 y.0) (λ q n x. cc) (l, y.2, l) (f, e, y.4))
+        go credit.Minted e =
+            absurd (let g = L.can_give p l f e in let y = g.1
+            in S (event.Give p y.1 y.0) (λ q n x. cc) (l, y.2, l) (f, e, y.4))
         go credit.Taken e = absurd (not_taken p l e)
 
     long_or_short : (n : ℕ) → (1 < n) ⊎ (n < 2)
@@ -66,7 +71,8 @@ module _ {I : Type 0} (s : Setup) (w : World I) (L : IsLawful s w) where
       f,
       one p l f,
       clear p l f,
-      λ b t m h e. S (event.Mint p) (λ q n x. cc) (l, l, l) (f, one p l f, b, (kind.Line, t, m, h, inr (refl, e))),
+      λ b t m h e. S (event.Mint p) (λ q n x. cc) (l, l, l)
+          (f, one p l f, b, (kind.Line, t, m, h, inr (refl, e))),
     )
 
     not_waiting : (p v : ℕ) (k : Kind) → p < s.places → (w.place p).phase ≢ phase.Waiting v k
@@ -76,27 +82,38 @@ module _ {I : Type 0} (s : Setup) (w : World I) (L : IsLawful s w) where
         go m Idle e = (L.thief k p v l m).waited (rw f (waits_self k v)) e
         go m Asked e = S (event.Deny v p k) (λ q n x. cc) (m, l, m) (e, not_gone v m, inl (not_working v m))
         go m Refused e = S (event.Shrug p v k) (λ q n x. cc) (l, l, m) (f, e)
-        go m (Loot xs) e = let i : PhaseFits (phase.Waiting v k) (w.place p).credit (length (w.place p).bag) = rw f at (L.inner p l).fits in
+        go m (Loot xs) e = let i : PhaseFits (phase.Waiting v k) (w.place p).credit
+            (length (w.place p).bag) = rw f at (L.inner p l).fits in
             S (event.Take p v k) (λ q n x. cc) (l, l, m) ((xs, e), inl (f, i.1))
 
     other : (p : ℕ) → 1 < s.places → (q : ℕ) × (q < s.places) × (p ≢ q)
-    other p b = ⊎_elim (λ (e : p ≡ 0). (1, b, λ x. omega arith)) (λ (n : p ≢ 0). (0, omega arith, n)) (cases_eq p 0)
+    other p b = ⊎_elim (λ (e : p ≡ 0). (1, b, λ x. omega arith)) (λ (n : p ≢ 0). (0, omega arith, n))
+        (cases_eq p 0)
 
     not_idle : (p : ℕ) → p < s.places → (w.place p).phase ≢ phase.Idle
     not_idle p l f = ⊎_elim
         (λ (e : (w.place p).tries ≡ 0).
-        S (event.Sleep p) (λ q n x. cc) (l, l, l) (f, e, λ v m h. armed v m h e (w.edge kind.Line p v) refl))
+        S (event.Sleep p) (λ q n x. cc) (l, l, l)
+        (f, e, λ v m h. armed v m h e (w.edge kind.Line p v) refl))
         (λ (n : (w.place p).tries ≢ 0).
         let t = (L.inner p l).tries in
-        let two : 1 < s.places = ⊎_elim (λ x. x) (λ x. let o = one_place x in absurd (omega arith)) (long_or_short s.places) in
+        let two : 1 < s.places =
+        ⊎_elim (λ x. x) (λ x. let o = one_place x in absurd (omega arith)) (long_or_short s.places) in
         let q = other p two in
-        S (event.Ask p q.0 kind.Steal) (λ r n x. cc) (l, l, q.1)
-        (f, omega arith, rw (eq_other p q.0 q.2) refl, (L.thief kind.Steal p q.0 l q.1).steal refl (not_gone p l) (rw f refl)))
+        S (event.Ask p q.0 kind.Steal) (λ r n x. cc) (l, l, q.1) (
+          f,
+          omega arith,
+          rw (eq_other p q.0 q.2) refl,
+          (L.thief kind.Steal p q.0 l q.1).steal refl (not_gone p l) (rw f refl),
+        ))
         (cases_eq (w.place p).tries 0)
       where
-        armed : (v : ℕ) → v < s.places → has_line s p v ≡ true → (w.place p).tries ≡ 0 → (e : WorldEdge I) → w.edge kind.Line p v ≡ e → IsArmed (w.edge kind.Line p v)
+        armed : (v : ℕ) → v < s.places → has_line s p v ≡ true → (w.place p).tries ≡ 0 → (e : WorldEdge I)
+            → w.edge kind.Line p v ≡ e → IsArmed (w.edge kind.Line p v)
         armed v m h t Idle e = absurd (S (event.Ask p v kind.Line) (λ r n x. cc) (l, l, m) (f, t, h, e))
-        armed v m h t Asked e = absurd (⊎_elim (λ x. let y : waits_on kind.Line v phase.Idle ≡ true = rw f at x in cc) (λ x. not_gone p l x) ((L.thief kind.Line p v l m).line refl e))
+        armed v m h t Asked e =
+            absurd (⊎_elim (λ x. let y : waits_on kind.Line v phase.Idle ≡ true = rw f at x in cc)
+            (λ x. not_gone p l x) ((L.thief kind.Line p v l m).line refl e))
         armed v m h t Refused e = rw e tt
         armed v m h t (Loot xs) e = rw e tt
 
@@ -111,7 +128,8 @@ module _ {I : Type 0} (s : Setup) (w : World I) (L : IsLawful s w) where
         go phase.Gone e = absurd (not_gone p l e)
 
     no_credit : (p : ℕ) → p < s.places → (w.place p).credit ≡ credit.Zero
-    no_credit p l = let f : PhaseFits phase.Asleep (w.place p).credit (length (w.place p).bag) = rw (sleeps p l) at (L.inner p l).fits in f.1
+    no_credit p l = let f : PhaseFits phase.Asleep (w.place p).credit (length (w.place p).bag) =
+        rw (sleeps p l) at (L.inner p l).fits in f.1
 
     no_loot : (k : Kind) (t v : ℕ) → t < s.places → v < s.places → loots (w.edge k t v) ≡ 0
     no_loot kind.Steal t v l m = rw ((L.thief kind.Steal t v l m).quiet (no_credit t l) refl) refl
@@ -121,18 +139,29 @@ module _ {I : Type 0} (s : Setup) (w : World I) (L : IsLawful s w) where
         go Idle e = rw e refl
         go Asked e = rw e refl
         go Refused e = rw e refl
-        go (Loot xs) e = absurd (S (event.Take t v kind.Line) (λ r n x. cc) (l, l, m) ((xs, e), inr (refl, inl (sleeps t l))))
+        go (Loot xs) e = absurd
+            (S (event.Take t v kind.Line) (λ r n x. cc) (l, l, m) ((xs, e), inr (refl, inl (sleeps t l))))
 
     dead : ⊥
     dead =
         let a = sum_zero s.places (λ p. worth (w.place p).credit) (λ p l. rw (no_credit p l) refl) in
-        let b = sum_zero s.places (λ t. own s w kind.Steal t loots) (λ t l. sum_zero s.places (λ v. loots (w.edge kind.Steal t v)) (λ v m. no_loot kind.Steal t v l m)) in
-        let c = sum_zero s.places (λ t. own s w kind.Line t loots) (λ t l. sum_zero s.places (λ v. loots (w.edge kind.Line t v)) (λ v m. no_loot kind.Line t v l m)) in
+        let b = sum_zero s.places (λ t. own s w kind.Steal t loots)
+        (λ t l. sum_zero s.places (λ v. loots (w.edge kind.Steal t v))
+        (λ v m. no_loot kind.Steal t v l m)) in
+        let c = sum_zero s.places (λ t. own s w kind.Line t loots)
+        (λ t l. sum_zero s.places (λ v. loots (w.edge kind.Line t v))
+        (λ v m. no_loot kind.Line t v l m)) in
         let e = L.sums.live in
         omega arith
 
   -- a stuck world is finished, and every place is Gone
-  pub stuck_finished : IsProper s → (s.places < 2 → s.tries ≡ 0) → IsStuck s w → w.stop ≡ 0 → (w.live ≡ 0) × ((p : ℕ) → p < s.places → (w.place p).phase ≡ phase.Gone)
+  pub stuck_finished : IsProper s → (s.places < 2 → s.tries ≡ 0) → IsStuck s w → w.stop ≡ 0 → (w.live ≡ 0)
+      × ((p : ℕ) → p < s.places → (w.place p).phase ≡ phase.Gone)
   stuck_finished P o S z =
-      let over : w.live ≡ 0 = ⊎_elim (λ x. x) (λ (n : w.live ≢ 0). absurd (dead P o S z (omega arith))) (cases_eq w.live 0) in
-      (over, λ p l. ⊎_elim (λ x. x) (λ (n : (w.place p).phase ≢ phase.Gone). absurd (S (event.Leave p) (λ q m x. cc) (l, l, l) (n, inl over))) (gone_cases (w.place p).phase))
+      let over : w.live ≡ 0 =
+      ⊎_elim (λ x. x) (λ (n : w.live ≢ 0). absurd (dead P o S z (omega arith))) (cases_eq w.live 0) in (
+        over,
+        λ p l. ⊎_elim (λ x. x)
+            (λ (n : (w.place p).phase ≢ phase.Gone).
+            absurd (S (event.Leave p) (λ q m x. cc) (l, l, l) (n, inl over))) (gone_cases (w.place p).phase),
+      )

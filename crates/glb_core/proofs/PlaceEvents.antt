@@ -16,7 +16,8 @@ use Rattle.glb_core.specs.declared.part.Part.{Part}
 
 -- a thief that keeps its phase and gains no Zero
 pub thief_same : {I : Type 0} {s : Setup} {k : Kind} {t v : ℕ} {a b : Part I} {e : WorldEdge I} →
-    ThiefSide s k t v a e → b.phase ≡ a.phase → (b.credit ≡ credit.Zero → a.credit ≡ credit.Zero) → ThiefSide s k t v b e
+    ThiefSide s k t v a e → b.phase ≡ a.phase → (b.credit ≡ credit.Zero → a.credit ≡ credit.Zero)
+    → ThiefSide s k t v b e
 thief_same T p c = record {
   there = T.there;
   steal = rw p T.steal;
@@ -28,7 +29,8 @@ thief_same T p c = record {
 }
 
 -- a place's credit counts in live
-pub worth_le : {I : Type 0} {s : Setup} {w : World I} → IsLawful s w → (p : ℕ) → p < s.places → worth (w.place p).credit ≤ w.live
+pub worth_le : {I : Type 0} {s : Setup} {w : World I} → IsLawful s w → (p : ℕ) → p < s.places
+    → worth (w.place p).credit ≤ w.live
 worth_le {s = s} {w = w} L p l =
     let t = term_le s.places p (λ q. worth (w.place q).credit) l in
     let e = L.sums.live in
@@ -46,11 +48,15 @@ pub record AloneLocal {I : Type 0} (s : Setup) (old : World I) (p : ℕ) (b : Ch
   pub quiet : b.stop ≡ 0 → (old.stop ≡ 0) × (old.live ≡ 0 → b.live ≡ 0)
   pub thief : (k : Kind) (v : ℕ) → v < s.places → ThiefSide s k p v b.place (old.edge k p v)
   pub victim : (k : Kind) (t : ℕ) → t < s.places → VictimSide s k t p b.place (old.edge k t p)
-  pub can_give : b.place.phase ≡ phase.Working → b.place.credit ≡ credit.Minted → (1 < length b.place.bag) × IsWanted s old p
-  pub counted : Counted s p b.place (own s old kind.Steal p busy) (own s old kind.Line p busy) (free s old p)
+  pub can_give : b.place.phase ≡ phase.Working → b.place.credit ≡ credit.Minted → (1 < length b.place.bag)
+      × IsWanted s old p
+  pub counted : Counted s p b.place (own s old kind.Steal p busy) (own s old kind.Line p busy)
+      (free s old p)
   pub balanced : Balanced kind.Steal (touched_at old p (nowhere p)) b
 
-pub alone : {I : Type 0} (s : Setup) (old new : World I) (p : ℕ) (b : Change I) → Becomes old new p (nowhere p) b → p < s.places → IsLawful s old → AloneLocal s old p b → IsLawful s new
+pub alone : {I : Type 0} (s : Setup) (old new : World I) (p : ℕ) (b : Change I)
+    → Becomes old new p (nowhere p) b → p < s.places → IsLawful s old → AloneLocal s old p b
+    → IsLawful s new
 alone s old new p b h l L a = keeps s old new p (nowhere p) b h l l l L (record {
   inner = a.inner;
   gone = a.gone;
@@ -59,12 +65,17 @@ alone s old new p b h l L a = keeps s old new p (nowhere p) b h l l l L (record 
   thief_named = rw (h.place, a.edge) (a.thief kind.Steal p l);
   victim_else = λ k t m d. a.victim k t m;
   victim_named = rw (h.place, a.edge) (a.victim kind.Steal p l);
-  can_give = rw h.place (λ x y. ((a.can_give x y).0, wanted_kept s old new p (nowhere p) b h l l l p (λ e. rw a.edge (λ z. z)) (a.can_give x y).1));
+  can_give = rw h.place
+      (λ x y. (
+        (a.can_give x y).0,
+        wanted_kept s old new p (nowhere p) b h l l l p (λ e. rw a.edge (λ z. z)) (a.can_give x y).1,
+      ));
   wants = λ d. absurd (d refl);
   counted = rw (
     own_kept s old new p (nowhere p) b h (λ v. busy) kind.Steal p l (ap busy a.edge),
     own_kept s old new p (nowhere p) b h (λ v. busy) kind.Line p l (ap busy a.edge),
-    own_kept s old new p (nowhere p) b h (λ v e. cond (has_line s p v) (idle e) 0) kind.Line p l (ap (λ e. cond (has_line s p p) (idle e) 0) a.edge),
+    own_kept s old new p (nowhere p) b h (λ v e. cond (has_line s p v) (idle e) 0) kind.Line p l
+        (ap (λ e. cond (has_line s p p) (idle e) 0) a.edge),
   ) a.counted;
   counted_else = λ d. absurd (d refl);
   balanced = a.balanced;

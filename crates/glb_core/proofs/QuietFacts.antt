@@ -18,7 +18,8 @@ zero_worth credit.One h = absurd (omega arith)
 zero_worth credit.Minted h = absurd (omega arith)
 zero_worth credit.Taken h = absurd (omega arith)
 
-zero_rest : (f : Phase) (n : ℕ) → PhaseFits f credit.Zero n → ((f ≡ phase.Asleep) ⊎ (f ≡ phase.Gone)) × (n ≡ 0)
+zero_rest : (f : Phase) (n : ℕ) → PhaseFits f credit.Zero n → ((f ≡ phase.Asleep) ⊎ (f ≡ phase.Gone))
+    × (n ≡ 0)
 zero_rest phase.Working n h = absurd (h.1 refl)
 zero_rest phase.Idle n h = absurd (let e = h.1 in cc)
 zero_rest (phase.Waiting v k) n h = absurd (let e = h.1 in cc)
@@ -26,7 +27,8 @@ zero_rest phase.Asleep n h = (inl refl, h.0)
 zero_rest phase.Gone n h = (inr refl, h refl)
 
 module _ {I : Type 0} (s : Setup) (w : World I) (L : IsLawful s w) where
-  loot_counts : (k : Kind) (t v : ℕ) (xs : List I) → t < s.places → v < s.places → w.edge k t v ≡ Loot xs → 1 ≤ over s w k loots
+  loot_counts : (k : Kind) (t v : ℕ) (xs : List I) → t < s.places → v < s.places → w.edge k t v ≡ Loot xs
+      → 1 ≤ over s w k loots
   loot_counts k t v xs m n e =
       let a = term_le s.places t (λ t. own s w k t loots) m in
       let b = term_le s.places v (λ v. loots (w.edge k t v)) n in
@@ -41,13 +43,18 @@ module _ {I : Type 0} (s : Setup) (w : World I) (L : IsLawful s w) where
   }
     where
       fits : (p : ℕ) → p < s.places → PhaseFits (w.place p).phase credit.Zero (length (w.place p).bag)
-      fits p l = let e : (w.place p).credit ≡ credit.Zero = zero_worth (w.place p).credit (let a = worth_le L p l in omega arith) in rw e at (L.inner p l).fits
+      fits p l = let e : (w.place p).credit ≡ credit.Zero =
+          zero_worth (w.place p).credit (let a = worth_le L p l in omega arith)
+          in rw e at (L.inner p l).fits
 
-      loot : (k : Kind) → 1 ≤ over s w k loots → w.live ≡ across s w (λ a. worth a.credit) + over s w kind.Steal loots + over s w kind.Line loots → ⊥
+      loot : (k : Kind) → 1 ≤ over s w k loots
+          → w.live ≡ across s w (λ a. worth a.credit) + over s w kind.Steal loots + over s w kind.Line
+          loots → ⊥
       loot kind.Steal a b = omega arith
       loot kind.Line a b = omega arith
 
   pub held : SleepersAreArmed s w
   held p v l m a e =
-      let f : PhaseFits phase.Asleep (w.place p).credit (length (w.place p).bag) = rw a at (L.inner p l).fits in
+      let f : PhaseFits phase.Asleep (w.place p).credit (length (w.place p).bag) =
+      rw a at (L.inner p l).fits in
       (L.thief kind.Line p v l m).armed f.1 refl e

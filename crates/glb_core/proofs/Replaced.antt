@@ -18,7 +18,8 @@ false_and : (b : Bool) → (b && false) ≡ false
 false_and true = refl
 false_and false = refl
 
-pub becomes : {I : Type 0} (w : World I) (p : ℕ) (c : EdgeName) (b : Change I) → Becomes w (replaced w p c b) p c b
+pub becomes : {I : Type 0} (w : World I) (p : ℕ) (c : EdgeName) (b : Change I)
+    → Becomes w (replaced w p c b) p c b
 becomes w p c b = record {
   place = rw (eq_self p) refl;
   edge = rw (same_kind_true c.kind c.kind refl, eq_self c.thief, eq_self c.victim) refl;

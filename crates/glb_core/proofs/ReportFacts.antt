@@ -15,7 +15,8 @@ use Rattle.glb_core.proofs.SumFacts.{sum_same}
 use Rattle.glb_core.proofs.BalanceFacts.{balances}
 use Rattle.glb_core.proofs.CounterFacts.{counts_small}
 
-sum_told : (g : Counters → ℕ) (f : ℕ → Counters) (n : ℕ) → sum_by g (map f (range_with_len 0 n)) ≡ sum_to n (λ p. g (f p))
+sum_told : (g : Counters → ℕ) (f : ℕ → Counters) (n : ℕ)
+    → sum_by g (map f (range_with_len 0 n)) ≡ sum_to n (λ p. g (f p))
 sum_told g f zero = refl
 sum_told g f (suc n) =
     let e : n + 1 ≡ suc n = omega arith in
@@ -23,21 +24,29 @@ sum_told g f (suc n) =
     (sum_by-map-range_with_len_more g f 0 n n (omega arith) ∙ ap (λ k. k + g (f n)) (sum_told g f n))
 
 -- a list by number tells its members
-pub told_at : {A : Type 0} (f : ℕ → A) (n p : ℕ) (x : A) → slice_get (map f (range_with_len 0 n)) p ≡ Some x → (p < n) × (x ≡ f p)
+pub told_at : {A : Type 0} (f : ℕ → A) (n p : ℕ) (x : A)
+    → slice_get (map f (range_with_len 0 n)) p ≡ Some x → (p < n) × (x ≡ f p)
 told_at f n p x e =
-    let l : p < n = subst (λ k. p < k) (length-map-range_with_len f 0 n) (slice_get_within (map f (range_with_len 0 n)) p x e) in
-    (l, sym (get_or_from_slice_get (map f (range_with_len 0 n)) p x x e) ∙ get_or-map-range_with_len f 0 n p p x l (omega arith))
+    let l : p < n = subst (λ k. p < k) (length-map-range_with_len f 0 n)
+    (slice_get_within (map f (range_with_len 0 n)) p x e) in (
+      l,
+      sym (get_or_from_slice_get (map f (range_with_len 0 n)) p x x e)
+          ∙ get_or-map-range_with_len f 0 n p p x l (omega arith),
+    )
 
-module _ {I : Type 0} (s : Setup) (w : World I) (L : IsLawful s w) (few : s.places ≤ 64) (tries : s.tries ≤ 64)
+module _ {I : Type 0} (s : Setup) (w : World I) (L : IsLawful s w) (few : s.places ≤ 64)
+    (tries : s.tries ≤ 64)
     (small : across s w (λ a. a.count.items) ≤ 2 ^ 41) where
   abbrev place_told : ℕ → Counters
   place_told p = counters_of (w.place p).count
 
   -- a sum of counters is the sum of counts
-  sum_is : (g : Counters → ℕ) (f : ℕ → ℕ) → ((p : ℕ) → p < s.places → g (place_told p) ≡ f p) → sum_by g (all_counters s w) ≡ sum_to s.places f
+  sum_is : (g : Counters → ℕ) (f : ℕ → ℕ) → ((p : ℕ) → p < s.places → g (place_told p) ≡ f p)
+      → sum_by g (all_counters s w) ≡ sum_to s.places f
   sum_is g f h = sum_told g place_told s.places ∙ sum_same s.places f (λ p. g (place_told p)) h
 
-  place_balances : (finished : w.live ≡ 0) (p : ℕ) → p < s.places → PlaceBalances (place_told p) (degree s p) (s.awake p)
+  place_balances : (finished : w.live ≡ 0) (p : ℕ) → p < s.places
+      → PlaceBalances (place_told p) (degree s p) (s.awake p)
   place_balances finished p l =
       let B = balances s w L finished in
       let c : HasSmallCounts (w.place p).count = counts_small s w L few tries small p l in
@@ -47,20 +56,34 @@ module _ {I : Type 0} (s : Setup) (w : World I) (L : IsLawful s w) (few : s.plac
         naps = let a = B.naps p l in let x = c.sleeps in let y = c.wakes in omega arith;
       }
 
-  pub finished_balanced : w.live ≡ 0 → IsBalanced (all_counters s w) (across s w (λ a. a.count.items)) (all_degrees s) (all_awake s)
+  pub finished_balanced : w.live ≡ 0
+      → IsBalanced (all_counters s w) (across s w (λ a. a.count.items)) (all_degrees s) (all_awake s)
   finished_balanced finished =
       let B = balances s w L finished in
       let C = counts_small s w L few tries small in
       record {
         sums = record {
           items = sum_is (λ c. c.items) _ (λ p l. let x = (C p l).items in omega arith);
-          given = sum_is (λ c. c.given) (λ p. (w.place p).count.given) (λ p l. let x = (C p l).given in omega arith) ∙ (B.given ∙ sym (sum_is (λ c. c.got) (λ p. (w.place p).count.got) (λ p l. let x = (C p l).got in omega arith)));
-          line_given = sum_is (λ c. c.line_given) (λ p. (w.place p).count.line_given) (λ p l. let x = (C p l).line_given in omega arith) ∙ (B.line_given ∙ sym (sum_is (λ c. c.line_got) (λ p. (w.place p).count.line_got) (λ p l. let x = (C p l).line_got in omega arith)));
-          units = sum_is (λ c. c.sent_units) (λ p. (w.place p).count.sent_units) (λ p l. let x = (C p l).sent_units in omega arith) ∙ (B.units ∙ sym (sum_is (λ c. c.got_units) (λ p. (w.place p).count.got_units) (λ p l. let x = (C p l).got_units in omega arith)));
+          given = sum_is (λ c. c.given) (λ p. (w.place p).count.given)
+              (λ p l. let x = (C p l).given in omega arith)
+              ∙ (B.given ∙ sym (sum_is (λ c. c.got) (λ p. (w.place p).count.got)
+              (λ p l. let x = (C p l).got in omega arith)));
+          line_given = sum_is (λ c. c.line_given) (λ p. (w.place p).count.line_given)
+              (λ p l. let x = (C p l).line_given in omega arith)
+              ∙ (B.line_given ∙ sym
+              (sum_is (λ c. c.line_got) (λ p. (w.place p).count.line_got)
+              (λ p l. let x = (C p l).line_got in omega arith)));
+          units = sum_is (λ c. c.sent_units) (λ p. (w.place p).count.sent_units)
+              (λ p l. let x = (C p l).sent_units in omega arith)
+              ∙ (B.units ∙ sym (sum_is (λ c. c.got_units) (λ p. (w.place p).count.got_units)
+              (λ p l. let x = (C p l).got_units in omega arith)));
           answers =
-              let a = sum_is (λ c. c.asks) (λ p. (w.place p).count.asks) (λ p l. let x = (C p l).asks in omega arith) in
-              let b = sum_is (λ c. c.denied) (λ p. (w.place p).count.denied) (λ p l. let x = (C p l).denied in omega arith) in
-              let d = sum_is (λ c. c.given) (λ p. (w.place p).count.given) (λ p l. let x = (C p l).given in omega arith) in
+              let a = sum_is (λ c. c.asks) (λ p. (w.place p).count.asks)
+              (λ p l. let x = (C p l).asks in omega arith) in
+              let b = sum_is (λ c. c.denied) (λ p. (w.place p).count.denied)
+              (λ p l. let x = (C p l).denied in omega arith) in
+              let d = sum_is (λ c. c.given) (λ p. (w.place p).count.given)
+              (λ p l. let x = (C p l).given in omega arith) in
               let e = B.all_asks in
               omega arith;
         };

@@ -29,18 +29,28 @@ use Rattle.glb_core.specs.TableEffects.{seat_after, slot_after, slot_shrugged, f
 use Rattle.glb_core.proofs.SlotFacts.{mark_apart, mark_below}
 
 -- the seat's bag has as many items as the part's
-pub size_of : {B I : Type 0} {items : B → List I} {seed n p : ℕ} {r : Seat B} {a : Part I} → ShowsPart items seed n p r a → length (items r.bag) ≡ length a.bag
+pub size_of : {B I : Type 0} {items : B → List I} {seed n p : ℕ} {r : Seat B} {a : Part I}
+    → ShowsPart items seed n p r a → length (items r.bag) ≡ length a.bag
 size_of {items = items} {r = r} {a = a} R = sym (length_permutation (items r.bag) a.bag R.bag)
 
-pub marks_put : (ms : List Mark) (l : List MarkOn) (n : ℕ) (k : Kind) (t : ℕ) (m : Mark) → length ms ≡ 2 * n → t < n →
+pub marks_put : (ms : List Mark) (l : List MarkOn) (n : ℕ) (k : Kind) (t : ℕ) (m : Mark)
+    → length ms ≡ 2 * n → t < n →
     ((j : Kind) (u : ℕ) → u < n → get_or ms (mark_index n j u) mark.Unseen ≡ mark_at l j u) →
-    (j : Kind) (u : ℕ) → u < n → get_or (set ms (mark_index n k t) m) (mark_index n j u) mark.Unseen ≡ mark_at (put_mark l k t m) j u
+    (j : Kind) (u : ℕ) → u < n
+    → get_or (set ms (mark_index n k t) m) (mark_index n j u) mark.Unseen ≡ mark_at (put_mark l k t m)
+    j u
 marks_put ms l n k t m long small h j u less = ⊎_elim
     (λ (e : j ≡ k). ⊎_elim
-    (λ (f : u ≡ t). rw (e, f) (get_or-set_same ms (mark_index n k t) m mark.Unseen (omega (arith, mark_below n k t small)) ∙ sym (set_mark_at (mark_at l) k t m)))
-    (λ (f : u ≢ t). get_or-set_other ms (mark_index n k t) (mark_index n j u) m mark.Unseen (λ g. f (mark_apart n j k u t less small g).1) ∙ h j u less ∙ sym (set_mark_else (mark_at l) k t m j u (inr f)))
+    (λ (f : u ≡ t). rw (e, f)
+    (get_or-set_same ms (mark_index n k t) m mark.Unseen (omega (arith, mark_below n k t small))
+    ∙ sym (set_mark_at (mark_at l) k t m)))
+    (λ (f : u ≢ t). get_or-set_other ms (mark_index n k t) (mark_index n j u) m mark.Unseen
+    (λ g. f (mark_apart n j k u t less small g).1) ∙ h j u less
+    ∙ sym (set_mark_else (mark_at l) k t m j u (inr f)))
     (cases_eq u t))
-    (λ (e : j ≢ k). get_or-set_other ms (mark_index n k t) (mark_index n j u) m mark.Unseen (λ g. e (mark_apart n j k u t less small g).0) ∙ h j u less ∙ sym (set_mark_else (mark_at l) k t m j u (inl e)))
+    (λ (e : j ≢ k). get_or-set_other ms (mark_index n k t) (mark_index n j u) m mark.Unseen
+    (λ g. e (mark_apart n j k u t less small g).0) ∙ h j u less
+    ∙ sym (set_mark_else (mark_at l) k t m j u (inl e)))
     (kind_cases j k)
 
 -- one more, below the last value or at it
@@ -50,22 +60,38 @@ more a n e = omega arith
 same : (a n : ℕ) → a ≡ capped n → a ≡ capped (n + 0)
 same a n e = omega arith
 
-counted_denied : (k : Kind) (c : Counters) (n : Counts) → c ≡ counters_of n → count_denied k c ≡ counters_of (record n { denied = n.denied + of_kind k 1 0 })
-counted_denied kind.Steal c n e = let f = more c.denied n.denied (ap (λ x. x.denied) e) in λ i. record (e i) { denied = f i }
-counted_denied kind.Line c n e = let f = same c.denied n.denied (ap (λ x. x.denied) e) in λ i. record (e i) { denied = f i }
+counted_denied : (k : Kind) (c : Counters) (n : Counts) → c ≡ counters_of n
+    → count_denied k c ≡ counters_of (record n { denied = n.denied + of_kind k 1 0 })
+counted_denied kind.Steal c n e = let f = more c.denied n.denied (ap (λ x. x.denied) e)
+    in λ i. record (e i) { denied = f i }
+counted_denied kind.Line c n e = let f = same c.denied n.denied (ap (λ x. x.denied) e)
+    in λ i. record (e i) { denied = f i }
 
-counted_shrug : (k : Kind) (c : Counters) (n : Counts) → c ≡ counters_of n → count_shrug k c ≡ counters_of (record n { shrugs = n.shrugs + of_kind k 1 0 })
-counted_shrug kind.Steal c n e = let f = more c.shrugs n.shrugs (ap (λ x. x.shrugs) e) in λ i. record (e i) { shrugs = f i }
-counted_shrug kind.Line c n e = let f = same c.shrugs n.shrugs (ap (λ x. x.shrugs) e) in λ i. record (e i) { shrugs = f i }
+counted_shrug : (k : Kind) (c : Counters) (n : Counts) → c ≡ counters_of n
+    → count_shrug k c ≡ counters_of (record n { shrugs = n.shrugs + of_kind k 1 0 })
+counted_shrug kind.Steal c n e = let f = more c.shrugs n.shrugs (ap (λ x. x.shrugs) e)
+    in λ i. record (e i) { shrugs = f i }
+counted_shrug kind.Line c n e = let f = same c.shrugs n.shrugs (ap (λ x. x.shrugs) e)
+    in λ i. record (e i) { shrugs = f i }
 
-counted_ask : (c : Counters) (n : Counts) → c ≡ counters_of n → record c { asks = capped (c.asks + 1) } ≡ counters_of (record n { asks = n.asks + 1; line_asks = n.line_asks + 0 })
-counted_ask c n e = let f = more c.asks n.asks (ap (λ x. x.asks) e) in let g = same c.line_asks n.line_asks (ap (λ x. x.line_asks) e) in λ i. record (e i) { asks = f i; line_asks = g i }
+counted_ask : (c : Counters) (n : Counts) → c ≡ counters_of n
+    → record c { asks = capped (c.asks + 1) } ≡ counters_of
+    (record n { asks = n.asks + 1; line_asks = n.line_asks + 0 })
+counted_ask c n e = let f = more c.asks n.asks (ap (λ x. x.asks) e) in
+    let g = same c.line_asks n.line_asks (ap (λ x. x.line_asks) e)
+    in λ i. record (e i) { asks = f i; line_asks = g i }
 
-counted_line_ask : (c : Counters) (n : Counts) → c ≡ counters_of n → record c { line_asks = capped (c.line_asks + 1) } ≡ counters_of (record n { asks = n.asks + 0; line_asks = n.line_asks + 1 })
-counted_line_ask c n e = let f = same c.asks n.asks (ap (λ x. x.asks) e) in let g = more c.line_asks n.line_asks (ap (λ x. x.line_asks) e) in λ i. record (e i) { asks = f i; line_asks = g i }
+counted_line_ask : (c : Counters) (n : Counts) → c ≡ counters_of n
+    → record c { line_asks = capped (c.line_asks + 1) } ≡ counters_of
+    (record n { asks = n.asks + 0; line_asks = n.line_asks + 1 })
+counted_line_ask c n e = let f = same c.asks n.asks (ap (λ x. x.asks) e) in
+    let g = more c.line_asks n.line_asks (ap (λ x. x.line_asks) e)
+    in λ i. record (e i) { asks = f i; line_asks = g i }
 
-counted_sleep : (c : Counters) (n : Counts) → c ≡ counters_of n → record c { sleeps = capped (c.sleeps + 1) } ≡ counters_of (record n { sleeps = n.sleeps + 1 })
-counted_sleep c n e = let f = more c.sleeps n.sleeps (ap (λ x. x.sleeps) e) in λ i. record (e i) { sleeps = f i }
+counted_sleep : (c : Counters) (n : Counts) → c ≡ counters_of n
+    → record c { sleeps = capped (c.sleeps + 1) } ≡ counters_of (record n { sleeps = n.sleeps + 1 })
+counted_sleep c n e = let f = more c.sleeps n.sleeps (ap (λ x. x.sleeps) e)
+    in λ i. record (e i) { sleeps = f i }
 
 -- one step more
 state_more : (w m p n t : ℕ) → next_state w m p (state_after w m p n t) ≡ state_after w m p (suc n) t
@@ -76,13 +102,17 @@ state_more w m p (suc n) t = state_more w m p n (next_state w m p t)
 pub advance_next : (w m n : ℕ) (g h : Lcg) → h ≡ advance w m n g → next w m h ≡ advance w m (n + 1) g
 advance_next w m n g h e =
     let k : suc n ≡ n + 1 = omega arith in
-    ap (next w m) e ∙ ap (λ t. record g { state = t }) (state_more w m g.increment n g.state) ∙ ap (λ j. advance w m j g) k
+    ap (next w m) e ∙ ap (λ t. record g { state = t }) (state_more w m g.increment n g.state)
+    ∙ ap (λ j. advance w m j g) k
 
-pub word_is : (seed p n : ℕ) (g : Lcg) → g ≡ advance 64 multiplier_64 n (started 64 multiplier_64 seed (increment_of 64 p)) → output_xsh_rr g.state ≡ word seed p n
+pub word_is : (seed p n : ℕ) (g : Lcg)
+    → g ≡ advance 64 multiplier_64 n (started 64 multiplier_64 seed (increment_of 64 p))
+    → output_xsh_rr g.state ≡ word seed p n
 unfolding word
 word_is seed p n g e = ap (λ x. output_xsh_rr x.state) e
 
-pub drawn_is : (seed n p number w : ℕ) → 1 < n → w ≡ word seed p number → victim_of w n p ≡ drawn seed n p number
+pub drawn_is : (seed n p number w : ℕ) → 1 < n → w ≡ word seed p number
+    → victim_of w n p ≡ drawn seed n p number
 drawn_is seed n p number w two e = ap (λ x. victim_of x n p) e ∙ sym (cond-true _ _ _ (lt-ltb 1 n two))
 
 pub face_in : {B I : Type 0} (items : B → List I) (z : Slot B) → face_of z ≡ state_of (edge_in items z)
@@ -91,10 +121,13 @@ face_in items kept.Asked = refl
 face_in items kept.Refused = refl
 face_in items (kept.Loot b) = refl
 
-module _ {B I : Type 0} (items : B → List I) (seed n most : ℕ) (r : Seat B) (z : Slot B) (a : Part I) (d : WorldEdge I) (same_edge : edge_in items z ≡ d) where
-  asked_part : (p v : ℕ) (k : Kind) → ShowsPart items seed n p r a → 2 ≤ n → ShowsPart items seed n p (asks n p v k r) (place_after most (event.Ask p v k) [] [] (state_of d) a)
+module _ {B I : Type 0} (items : B → List I) (seed n most : ℕ) (r : Seat B) (z : Slot B) (a : Part I)
+    (d : WorldEdge I) (same_edge : edge_in items z ≡ d) where
+  asked_part : (p v : ℕ) (k : Kind) → ShowsPart items seed n p r a → 2 ≤ n
+      → ShowsPart items seed n p (asks n p v k r) (place_after most (event.Ask p v k) [] [] (state_of d) a)
   asked_part p v kind.Steal R two =
-      let w : r.words ≡ advance 64 multiplier_64 (a.count.asks + 1) (started 64 multiplier_64 seed (increment_of 64 p)) = R.words (omega arith) in
+      let w : r.words ≡ advance 64 multiplier_64 (a.count.asks + 1)
+      (started 64 multiplier_64 seed (increment_of 64 p)) = R.words (omega arith) in
       record {
         same_phase = refl;
         same_credit = R.same_credit;
@@ -104,7 +137,8 @@ module _ {B I : Type 0} (items : B → List I) (seed n most : ℕ) (r : Seat B) 
         marks = R.marks;
         counters = counted_ask r.counters a.count R.counters;
         words = λ _. advance_next 64 multiplier_64 (a.count.asks + 1) _ r.words w;
-        victim = drawn_is seed n p (a.count.asks + 1) (output_xsh_rr r.words.state) (omega arith) (word_is seed p (a.count.asks + 1) r.words w);
+        victim = drawn_is seed n p (a.count.asks + 1) (output_xsh_rr r.words.state) (omega arith)
+            (word_is seed p (a.count.asks + 1) r.words w);
       }
   asked_part p v kind.Line R two =
       let zero_more : a.count.asks ≡ a.count.asks + 0 = omega arith in
@@ -116,11 +150,14 @@ module _ {B I : Type 0} (items : B → List I) (seed n most : ℕ) (r : Seat B) 
         many = R.many;
         marks = R.marks;
         counters = counted_line_ask r.counters a.count R.counters;
-        words = λ l. R.words l ∙ ap (λ x. advance 64 multiplier_64 (x + 1) (started 64 multiplier_64 seed (increment_of 64 p))) zero_more;
+        words = λ l. R.words l
+            ∙ ap (λ x. advance 64 multiplier_64 (x + 1)
+            (started 64 multiplier_64 seed (increment_of 64 p))) zero_more;
         victim = R.victim ∙ ap (drawn seed n p) zero_more;
       }
 
-  pub effect_part : (e : Event) → ShowsPart items seed n (actor e) r a → NamesBelow n e → AsksAnother n e → IsSimple e
+  pub effect_part : (e : Event) → ShowsPart items seed n (actor e) r a → NamesBelow n e → AsksAnother n e
+      → IsSimple e
       → ShowsPart items seed n (actor e) (seat_after n e z r) (place_after most e [] [] (state_of d) a)
   effect_part (event.Look q t k) R b o simple = record {
     same_phase = R.same_phase;
@@ -129,7 +166,9 @@ module _ {B I : Type 0} (items : B → List I) (seed n most : ℕ) (r : Seat B) 
     bag = R.bag;
     many = length-set r.marks.items (mark_index n k t) (looked (face_of z)) ∙ R.many;
     marks = subst
-        (λ m. (j : Kind) (u : ℕ) → u < n → get_or (set r.marks.items (mark_index n k t) (looked (face_of z))) (mark_index n j u) mark.Unseen ≡ mark_at (put_mark a.marks k t m) j u)
+        (λ m. (j : Kind) (u : ℕ) → u < n
+        → get_or (set r.marks.items (mark_index n k t) (looked (face_of z))) (mark_index n j u)
+        mark.Unseen ≡ mark_at (put_mark a.marks k t m) j u)
         (ap looked (face_in items z ∙ ap state_of same_edge))
         (marks_put r.marks.items a.marks n k t (looked (face_of z)) R.many b.1 R.marks);
     counters = R.counters;

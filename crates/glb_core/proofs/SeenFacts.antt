@@ -10,7 +10,8 @@ use Rattle.glb_core.specs.declared.kinds.Edge.TheVariants as seen
 use Rattle.glb_core.specs.declared.seen.InEdge.{InEdge}
 use Rattle.glb_core.specs.declared.seen.OutEdge.{OutEdge}
 
-pub map_each : {A B : Type 0} (n : ℕ) (passes : ℕ → Bool) (f : ℕ → A) (g : A → B) → map g (each_below n passes f) ≡ each_below n passes (λ t. g (f t))
+pub map_each : {A B : Type 0} (n : ℕ) (passes : ℕ → Bool) (f : ℕ → A) (g : A → B)
+    → map g (each_below n passes f) ≡ each_below n passes (λ t. g (f t))
 map_each zero passes f g = refl
 map_each (suc n) passes f g =
     map-append g (each_below n passes f) (cond (passes n) (f n ∷ []) [])
@@ -22,7 +23,8 @@ map_each (suc n) passes f g =
     one false = refl
 
 -- the places with a line to this one are those that pass the test
-pub map_ins : {A : Type 0} (c : Cube) (p n : ℕ) (f : ℕ → A) → map f (ins_below c p n) ≡ each_below n (λ t. has_number p (outs_of c t)) f
+pub map_ins : {A : Type 0} (c : Cube) (p n : ℕ) (f : ℕ → A)
+    → map f (ins_below c p n) ≡ each_below n (λ t. has_number p (outs_of c t)) f
 map_ins c p zero f = ap (map f) (ins_none c p)
 map_ins c p (suc n) f =
     ap (map f) (ins_more c p n)
@@ -37,16 +39,22 @@ map_ins c p (suc n) f =
 abbrev sight_with : List InEdge → List OutEdge → Sight
 sight_with ins outs = record { ins = ins; outs = outs; waited = seen.Idle; ended = false; stop = 0 }
 
-pub first_is : (c : Cube) (p places : ℕ) (old mid ins : List InEdge) (thieves victims : List ℕ) (outs : List OutEdge) →
+pub first_is : (c : Cube) (p places : ℕ) (old mid ins : List InEdge) (thieves victims : List ℕ)
+    (outs : List OutEdge) →
     old ≡ [] → places ≡ c.places → mid ≡ old ++ each_below places (λ t. not (t == p)) first_steal_in →
-    thieves ≡ ins_of c p → ins ≡ mid ++ map first_line_in thieves → victims ≡ outs_of c p → outs ≡ map first_line_out victims →
+    thieves ≡ ins_of c p → ins ≡ mid ++ map first_line_in thieves → victims ≡ outs_of c p
+    → outs ≡ map first_line_out victims →
     sight_with ins outs ≡ first_sight c p
 first_is c p places old mid ins thieves victims outs o n m t i v u =
-    ap (λ xs. sight_with xs outs) (i ∙ (ap (λ xs. mid ++ map first_line_in xs) t ∙ (ap (λ xs. mid ++ xs) (map_ins c p c.places first_line_in) ∙ ap (λ xs. xs ++ each_below c.places (λ t. has_number p (outs_of c t)) first_line_in) first)))
+    ap (λ xs. sight_with xs outs)
+    (i ∙ (ap (λ xs. mid ++ map first_line_in xs) t
+    ∙ (ap (λ xs. mid ++ xs) (map_ins c p c.places first_line_in)
+    ∙ ap (λ xs. xs ++ each_below c.places (λ t. has_number p (outs_of c t)) first_line_in) first)))
     ∙ ap (λ ys. sight_with (first_sight c p).ins ys) (u ∙ ap (map first_line_out) v)
   where
     first : mid ≡ each_below c.places (λ t. not (t == p)) first_steal_in
-    first = m ∙ (ap (λ xs. xs ++ each_below places (λ t. not (t == p)) first_steal_in) o ∙ ap (λ k. each_below k (λ t. not (t == p)) first_steal_in) n)
+    first = m ∙ (ap (λ xs. xs ++ each_below places (λ t. not (t == p)) first_steal_in) o
+        ∙ ap (λ k. each_below k (λ t. not (t == p)) first_steal_in) n)
 
 victims_of : (vs : List ℕ) → map (λ (y : OutEdge). y.victim) (map first_line_out vs) ≡ vs
 victims_of [] = refl
@@ -55,8 +63,13 @@ victims_of (v ∷ vs) = ap (λ xs. v ∷ xs) (victims_of vs)
 pub first_made : (c : Cube) (p : ℕ) → IsMadeFor c p (first_sight c p)
 first_made c p = record {
   ins =
-      map-append (λ (x : InEdge). name_of x.kind x.thief p) (each_below c.places (λ t. not (t == p)) first_steal_in) (each_below c.places (λ t. has_number p (outs_of c t)) first_line_in)
-      ∙ (ap (λ xs. xs ++ map (λ (x : InEdge). name_of x.kind x.thief p) (each_below c.places (λ t. has_number p (outs_of c t)) first_line_in)) (map_each c.places (λ t. not (t == p)) first_steal_in (λ x. name_of x.kind x.thief p))
-      ∙ ap (λ ys. each_below c.places (λ t. not (t == p)) (λ t. name_of kind.Steal t p) ++ ys) (map_each c.places (λ t. has_number p (outs_of c t)) first_line_in (λ x. name_of x.kind x.thief p)));
+      map-append (λ (x : InEdge). name_of x.kind x.thief p)
+      (each_below c.places (λ t. not (t == p)) first_steal_in)
+      (each_below c.places (λ t. has_number p (outs_of c t)) first_line_in)
+      ∙ (ap (λ xs. xs ++ map (λ (x : InEdge). name_of x.kind x.thief p)
+      (each_below c.places (λ t. has_number p (outs_of c t)) first_line_in))
+      (map_each c.places (λ t. not (t == p)) first_steal_in (λ x. name_of x.kind x.thief p))
+      ∙ ap (λ ys. each_below c.places (λ t. not (t == p)) (λ t. name_of kind.Steal t p) ++ ys)
+      (map_each c.places (λ t. has_number p (outs_of c t)) first_line_in (λ x. name_of x.kind x.thief p)));
   outs = victims_of (outs_of c p);
 }

@@ -13,19 +13,28 @@ use Rattle.glb_core.specs.Setups.{IsProper, IsConnected, setup_of, tries_of, bit
 use Rattle.glb_core.specs.declared.params.Params.{Params}
 
 one_is : (p x : ℕ) → has_number p (x ∷ []) ≡ true → p ≡ x
-one_is p x e = elim (cases_eq p x) [ inl same ↦ same | inr far ↦ absurd (true≢false (sym e ∙ cond-false _ _ _ (ne_eqb p x far))) ]
+one_is p x e = elim (cases_eq p x)
+    [ inl same ↦ same | inr far ↦ absurd (true≢false (sym e ∙ cond-false _ _ _ (ne_eqb p x far))) ]
 
-first_or : (p x : ℕ) (xs : List ℕ) → has_number p (x ∷ xs) ≡ true → (has_number p (x ∷ []) ≡ true) ⊎ (has_number p xs ≡ true)
-first_or p x xs e = elim (cases_eq p x) [ inl same ↦ inl (cond-true _ _ _ (eq-eqb p x same)) | inr far ↦ inr (sym (cond-false _ _ _ (ne_eqb p x far)) ∙ e) ]
+first_or : (p x : ℕ) (xs : List ℕ) → has_number p (x ∷ xs) ≡ true → (has_number p (x ∷ []) ≡ true)
+    ⊎ (has_number p xs ≡ true)
+first_or p x xs e =
+    elim (cases_eq p x) [
+      | inl same ↦ inl (cond-true _ _ _ (eq-eqb p x same))
+      | inr far ↦ inr
+          (sym (cond-false _ _ _ (ne_eqb p x far)) ∙ e)
+    ]
 
 count_members : (n : ℕ) (xs : List ℕ) → count_to n (λ v. has_number v xs) ≤ length xs
-count_members n [] = let e : count_to n (λ v. has_number v []) ≡ 0 = count_none n _ (λ p s. refl) in omega (arith, e)
+count_members n [] = let e : count_to n (λ v. has_number v []) ≡ 0 = count_none n _ (λ p s. refl)
+    in omega (arith, e)
 count_members n (x ∷ xs) =
     omega (
       arith,
       count_members n xs,
       count_one n (λ v. has_number v (x ∷ [])) (λ p r s t e f. one_is p x e ∙ sym (one_is r x f)),
-      count_split n (λ v. has_number v (x ∷ xs)) (λ v. has_number v (x ∷ [])) (λ v. has_number v xs) (λ p s e. first_or p x xs e),
+      count_split n (λ v. has_number v (x ∷ xs)) (λ v. has_number v (x ∷ [])) (λ v. has_number v xs)
+          (λ p s e. first_or p x xs e),
     )
 
 sum_is : (n : ℕ) (f g : ℕ → Bool) → ((t : ℕ) → t < n → f t ≡ g t) → sum_to n (λ t. bit (f t)) ≡ count_to n g
@@ -57,20 +66,28 @@ module _ (c : Cube) (q : Params) (awake : ℕ → Bool) where
       let g : GraphLaws c = graph_laws c i in
       record {
         once = λ t s. rw (outs_are t s) (g.once t s);
-        near = λ t v h. elim (cases_lt t c.places) [ inl s ↦ g.near t v (sym (line_is t v s) ∙ h) | inr over ↦ absurd (true≢false (sym h ∙ no_line t v over)) ];
-        no_loop = λ p. elim (cases_lt p c.places) [ inl s ↦ line_is p p s ∙ g.no_loop p | inr over ↦ no_line p p over ];
+        near = λ t v h. elim (cases_lt t c.places) [
+          | inl s ↦ g.near t v (sym (line_is t v s) ∙ h)
+          | inr over ↦ absurd
+              (true≢false (sym h ∙ no_line t v over))
+        ];
+        no_loop = λ p. elim (cases_lt p c.places)
+            [ inl s ↦ line_is p p s ∙ g.no_loop p | inr over ↦ no_line p p over ];
         out = λ p s.
-            let e : degree (setup_of c q awake) p ≡ count_to c.places (λ v. has_number v (outs_of c p)) = sum_is c.places _ _ (λ v t. line_is p v s) in
+            let e : degree (setup_of c q awake) p ≡ count_to c.places (λ v. has_number v (outs_of c p)) =
+            sum_is c.places _ _ (λ v t. line_is p v s) in
             omega (arith, e, count_members c.places (outs_of c p), g.out p);
         into = λ p s.
-            let e : in_degree (setup_of c q awake) p ≡ count_to c.places (λ t. has_number p (outs_of c t)) = sum_is c.places _ _ (λ t u. line_is t p u) in
+            let e : in_degree (setup_of c q awake) p ≡ count_to c.places (λ t. has_number p (outs_of c t))
+            = sum_is c.places _ _ (λ t u. line_is t p u) in
             omega (arith, e, g.into p);
         some = i.some;
         batch = some;
         alone = λ few. let a = i.some in alone_tries q (omega arith);
       }
 
-  path_is : (a b : ℕ) (ps : List ℕ) → a < c.places → IsWay c a ps b → IsPath (λ t v. (v < c.places) × (has_line (setup_of c q awake) t v ≡ true)) a ps b
+  path_is : (a b : ℕ) (ps : List ℕ) → a < c.places → IsWay c a ps b
+      → IsPath (λ t v. (v < c.places) × (has_line (setup_of c q awake) t v ≡ true)) a ps b
   path_is a b [] small w = w
   path_is a b (p ∷ ps) small w = ((w.0.0, line_is a p small ∙ w.0.1), path_is p b ps w.0.0 w.1)
 

@@ -16,11 +16,16 @@ use Rattle.glb_core.specs.declared.kinds.Credit.TheVariants as credit
 use Rattle.glb_core.specs.declared.part.Part.{Part}
 use Rattle.glb_core.specs.declared.event.Event.TheVariants as event
 
-shrug_balanced : {I : Type 0} (s : Setup) (p v : ℕ) (k : Kind) (taken rest : List I) (a : Change I) → a.edge ≡ Refused → Balanced k a (after s (event.Shrug p v k) taken rest a)
-shrug_balanced s p v kind.Steal taken rest a e = record { live = rw e refl; asks = rw e refl; given = rw e refl; line_given = refl; units = rw e refl }
-shrug_balanced s p v kind.Line taken rest a e = record { live = refl; asks = refl; given = refl; line_given = refl; units = refl }
+shrug_balanced : {I : Type 0} (s : Setup) (p v : ℕ) (k : Kind) (taken rest : List I) (a : Change I)
+    → a.edge ≡ Refused → Balanced k a (after s (event.Shrug p v k) taken rest a)
+shrug_balanced s p v kind.Steal taken rest a e =
+    record { live = rw e refl; asks = rw e refl; given = rw e refl; line_given = refl; units = rw e refl }
+shrug_balanced s p v kind.Line taken rest a e =
+    record { live = refl; asks = refl; given = refl; line_given = refl; units = refl }
 
-shrug_cell : {I : Type 0} (s : Setup) (k : Kind) (p v : ℕ) (a b : Part I) (e : WorldEdge I) → e ≡ Refused → ThiefSide s k p v a e → b.phase ≡ phase.Idle → b.credit ≡ credit.One → ThiefSide s k p v b (after_shrug k e)
+shrug_cell : {I : Type 0} (s : Setup) (k : Kind) (p v : ℕ) (a b : Part I) (e : WorldEdge I) → e ≡ Refused
+    → ThiefSide s k p v a e → b.phase ≡ phase.Idle → b.credit ≡ credit.One
+    → ThiefSide s k p v b (after_shrug k e)
 shrug_cell s kind.Steal p v a b e is T i c = idle_again (rw i refl) (λ z. cc)
 shrug_cell s kind.Line p v a b e is T i c = record {
   there = T.there;
@@ -32,45 +37,76 @@ shrug_cell s kind.Line p v a b e is T i c = record {
   loot = λ xs x. absurd (cc);
 }
 
-shrug_counted : {I : Type 0} (s : Setup) (old : World I) (p v : ℕ) (k : Kind) (taken rest : List I) → (old.place p).phase ≡ phase.Waiting v k → old.edge k p v ≡ Refused →
-    Counted s p (old.place p) (own s old kind.Steal p busy) (own s old kind.Line p busy) (free s old p) → (n m f : ℕ) →
-    n + pick kind.Steal k (busy (old.edge k p v)) ≡ own s old kind.Steal p busy + pick kind.Steal k (busy (after_shrug k (old.edge k p v))) →
-    m + pick kind.Line k (busy (old.edge k p v)) ≡ own s old kind.Line p busy + pick kind.Line k (busy (after_shrug k (old.edge k p v))) →
-    f + pick kind.Line k (cond (has_line s p v) (idle (old.edge k p v)) 0) ≡ free s old p + pick kind.Line k (cond (has_line s p v) (idle (after_shrug k (old.edge k p v))) 0) →
+shrug_counted : {I : Type 0} (s : Setup) (old : World I) (p v : ℕ) (k : Kind) (taken rest : List I)
+    → (old.place p).phase ≡ phase.Waiting v k → old.edge k p v ≡ Refused →
+    Counted s p (old.place p) (own s old kind.Steal p busy) (own s old kind.Line p busy) (free s old p)
+    → (n m f : ℕ) →
+    n + pick kind.Steal k (busy (old.edge k p v)) ≡ own s old kind.Steal p busy + pick kind.Steal k
+    (busy (after_shrug k (old.edge k p v))) →
+    m + pick kind.Line k (busy (old.edge k p v)) ≡ own s old kind.Line p busy + pick kind.Line k
+    (busy (after_shrug k (old.edge k p v))) →
+    f + pick kind.Line k (cond (has_line s p v) (idle (old.edge k p v)) 0) ≡ free s old p + pick kind.Line
+    k (cond (has_line s p v) (idle (after_shrug k (old.edge k p v))) 0) →
     Counted s p (after s (event.Shrug p v k) taken rest (touched old (event.Shrug p v k))).place n m f
 shrug_counted s old p v kind.Steal taken rest w is c n m f en em ef =
     let e : n + 1 ≡ own s old kind.Steal p busy + 0 = rw is at en in
     let e2 : f + 0 ≡ free s old p + 0 = ef in
     let e3 : m + 0 ≡ own s old kind.Line p busy + 0 = em in
-    record { asks = (let a = c.asks in omega arith); lines = (let a = c.lines in omega arith); line_asks = (let a = rw w at c.line_asks in omega arith) }
+    record {
+      asks = (let a = c.asks in omega arith);
+      lines = (let a = c.lines in omega arith);
+      line_asks =
+          (let a = rw w at c.line_asks in omega arith);
+    }
 shrug_counted s old p v kind.Line taken rest w is c n m f en em ef =
     let e : n + 0 ≡ own s old kind.Steal p busy + 0 = en in
     let e2 : f ≡ free s old p = omega arith in
     let e3 : m ≡ own s old kind.Line p busy = omega arith in
-    record { asks = (let a = c.asks in omega arith); lines = (let a = c.lines in omega arith); line_asks = (let a = rw w at c.line_asks in omega arith) }
+    record {
+      asks = (let a = c.asks in omega arith);
+      lines = (let a = c.lines in omega arith);
+      line_asks =
+          (let a = rw w at c.line_asks in omega arith);
+    }
 
-pub shrug_keeps : {I : Type 0} (children : I → List I) (s : Setup) (old new : World I) (p v : ℕ) (k : Kind) → IsProper s → IsLawful s old → Step children s old (event.Shrug p v k) new → IsLawful s new
+pub shrug_keeps : {I : Type 0} (children : I → List I) (s : Setup) (old new : World I) (p v : ℕ)
+    (k : Kind) → IsProper s → IsLawful s old → Step children s old (event.Shrug p v k) new → IsLawful s new
 shrug_keeps children s old new p v k P L st =
     let l = st.in_range.0 in
     let m = st.in_range.2 in
     let i = L.inner p l in
     let waits : (old.place p).phase ≡ phase.Waiting v k = st.enabled.0 in
     let is : old.edge k p v ≡ Refused = st.enabled.1 in
-    let f : PhaseFits (phase.Waiting v k) (old.place p).credit (length (old.place p).bag) = rw waits at i.fits in
+    let f : PhaseFits (phase.Waiting v k) (old.place p).credit (length (old.place p).bag) =
+    rw waits at i.fits in
     let one : (old.place p).credit ≡ credit.One = f.1 in
     let T = L.thief k p v l m in
     by_thief s old new p k v _ st.becomes m l L (record {
       apart = apart s P k p v (is_there T (λ z. cc));
-      inner = record { fits = f; tries = i.tries; items = i.items; naps = i.naps; asks = (let a = rw waits at i.asks in a); sent = i.sent; wakes = i.wakes; near = λ u j e. absurd (cc); unmarked = λ j u n g. i.unmarked j u (rw waits (λ e. cc)) (rw waits (λ e. cc)) };
+      inner = record {
+        fits = f;
+        tries = i.tries;
+        items = i.items;
+        naps = i.naps;
+        asks =
+            (let a = rw waits at i.asks in a);
+        sent = i.sent;
+        wakes = i.wakes;
+        near = λ u j e. absurd (cc);
+        unmarked = λ j u n g. i.unmarked j u (rw waits (λ e. cc)) (rw waits (λ e. cc));
+      };
       live = refl;
       stop = refl;
       not_gone = λ e. cc;
-      thief_else = λ j u n d. moved_on (L.thief j p u l n) (rw waits (waits_else k v j u d)) (rw waits (λ e. cc)) refl (λ z. z);
+      thief_else = λ j u n d.
+          moved_on (L.thief j p u l n) (rw waits (waits_else k v j u d)) (rw waits (λ e. cc)) refl (λ z. z);
       thief_named = shrug_cell s k p v (old.place p) _ (old.edge k p v) is T refl one;
       marks = refl;
       still_asked = λ e. absurd (cc);
       can_give = λ x. absurd (cc);
-      wants = λ w. ⊎_elim (λ x. absurd (cc)) (λ x. inr (x.0, subst (λ j. after_shrug j (old.edge j p v) ≡ Refused) (sym x.0) (rw x.0 at is))) w;
+      wants = λ w. ⊎_elim (λ x. absurd (cc))
+          (λ x. inr (x.0, subst (λ j. after_shrug j (old.edge j p v) ≡ Refused) (sym x.0) (rw x.0 at is)))
+          w;
       counted = shrug_counted s old p v k st.taken st.rest waits is (L.counted p l);
       balanced = shrug_balanced s p v k st.taken st.rest (touched old (event.Shrug p v k)) is;
     })

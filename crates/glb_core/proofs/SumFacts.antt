@@ -11,7 +11,8 @@ sum_same (suc n) f g h =
     let d = h n (omega arith) in
     omega arith
 
-pub sum_change : (n i : ℕ) (f g : ℕ → ℕ) → i < n → ((j : ℕ) → j < n → j ≢ i → g j ≡ f j) → sum_to n g + f i ≡ sum_to n f + g i
+pub sum_change : (n i : ℕ) (f g : ℕ → ℕ) → i < n → ((j : ℕ) → j < n → j ≢ i → g j ≡ f j)
+    → sum_to n g + f i ≡ sum_to n f + g i
 sum_change zero i f g l h = absurd (omega arith)
 sum_change (suc n) i f g l h =
     ⊎_elim
@@ -46,7 +47,8 @@ sum_plus (suc n) f g = let e = sum_plus n f g in omega arith
 
 pub sum_zero : (n : ℕ) (f : ℕ → ℕ) → ((j : ℕ) → j < n → f j ≡ 0) → sum_to n f ≡ 0
 sum_zero zero f h = refl
-sum_zero (suc n) f h = let e = sum_zero n f (λ j l. h j (omega arith)) in let d = h n (omega arith) in omega arith
+sum_zero (suc n) f h = let e = sum_zero n f (λ j l. h j (omega arith)) in let d = h n (omega arith)
+    in omega arith
 
 pub sum_most : (n k : ℕ) (f : ℕ → ℕ) → ((j : ℕ) → j < n → f j ≤ k) → sum_to n f ≤ n * k
 sum_most zero k f h = omega arith
@@ -57,4 +59,5 @@ sum_most (suc n) k f h =
 
 pub sum_times : (n c : ℕ) (f g : ℕ → ℕ) → ((j : ℕ) → j < n → f j ≤ c * g j) → sum_to n f ≤ c * sum_to n g
 sum_times zero c f g h = omega arith
-sum_times (suc n) c f g h = let e = sum_times n c f g (λ j l. h j (omega arith)) in let d = h n (omega arith) in let m = mul-add c (sum_to n g) (g n) in omega arith
+sum_times (suc n) c f g h = let e = sum_times n c f g (λ j l. h j (omega arith)) in
+    let d = h n (omega arith) in let m = mul-add c (sum_to n g) (g n) in omega arith

@@ -20,22 +20,28 @@ use Rattle.glb_core.specs.declared.event.Event.TheVariants as event
 
 -- what is known of a place that takes
 abbrev Taker : {I : Type 0} → Kind → Part I → Type 0
-Taker k a = ((a.credit ≡ credit.One) × (slept a.phase ≡ 0)) ⊎ ((a.credit ≡ credit.Zero) × (slept a.phase ≡ 1) × (k ≡ kind.Line))
+Taker k a = ((a.credit ≡ credit.One) × (slept a.phase ≡ 0))
+    ⊎ ((a.credit ≡ credit.Zero) × (slept a.phase ≡ 1) × (k ≡ kind.Line))
 
-taker : {I : Type 0} (s : Setup) (k : Kind) (p v : ℕ) (a : Part I) → Inner s p a → ((a.phase ≡ phase.Waiting v k) × (a.credit ≡ credit.One)) ⊎ ((k ≡ kind.Line) × IsReady a) → Taker k a
+taker : {I : Type 0} (s : Setup) (k : Kind) (p v : ℕ) (a : Part I) → Inner s p a
+    → ((a.phase ≡ phase.Waiting v k) × (a.credit ≡ credit.One)) ⊎ ((k ≡ kind.Line) × IsReady a) → Taker k a
 taker s k p v a i d = ⊎_elim
     (λ w. inl (w.1, rw w.0 refl))
     (λ r. ⊎_elim
-    (λ (z : a.phase ≡ phase.Asleep). let f : PhaseFits phase.Asleep a.credit (length a.bag) = rw z at i.fits in inr (f.1, rw z refl, r.0))
+    (λ (z : a.phase ≡ phase.Asleep).
+    let f : PhaseFits phase.Asleep a.credit (length a.bag) = rw z at i.fits
+    in inr (f.1, rw z refl, r.0))
     (λ y. ⊎_elim
-    (λ (z : a.phase ≡ phase.Idle). let f : PhaseFits phase.Idle a.credit (length a.bag) = rw z at i.fits in inl (f.1, rw z refl))
+    (λ (z : a.phase ≡ phase.Idle). let f : PhaseFits phase.Idle a.credit (length a.bag) = rw z at i.fits
+    in inl (f.1, rw z refl))
     (λ z. inl (z.1, rw z.0 refl))
     y)
     r.1)
     d
 
 -- a taker waits on no other edge, and is not Gone
-taker_waits : {I : Type 0} (k : Kind) (v : ℕ) (a : Part I) → ((a.phase ≡ phase.Waiting v k) × (a.credit ≡ credit.One)) ⊎ ((k ≡ kind.Line) × IsReady a) →
+taker_waits : {I : Type 0} (k : Kind) (v : ℕ) (a : Part I)
+    → ((a.phase ≡ phase.Waiting v k) × (a.credit ≡ credit.One)) ⊎ ((k ≡ kind.Line) × IsReady a) →
     (a.phase ≢ phase.Gone) × ((j : Kind) (u : ℕ) → (j ≢ k) ⊎ (u ≢ v) → waits_on j u a.phase ≡ false)
 taker_waits k v a d = ⊎_elim
     (λ w. rw w.0 (λ e. cc, λ j u x. waits_else k v j u x))
@@ -54,49 +60,69 @@ took_not_zero credit.One e = cc
 took_not_zero credit.Minted e = cc
 took_not_zero credit.Taken e = cc
 
-take_balanced : {I : Type 0} (s : Setup) (p v : ℕ) (k : Kind) (taken rest : List I) (a : Change I) → a.edge ≡ Loot taken → Taker k a.place → Balanced k a (after s (event.Take p v k) taken rest a)
+take_balanced : {I : Type 0} (s : Setup) (p v : ℕ) (k : Kind) (taken rest : List I) (a : Change I)
+    → a.edge ≡ Loot taken → Taker k a.place → Balanced k a (after s (event.Take p v k) taken rest a)
 take_balanced s p v kind.Steal taken rest a e d = record {
-  live = ⊎_elim (λ x. let y : a.place.credit ≡ credit.One = x.0 in rw (e, y) (omega arith)) (λ x. let y : a.place.credit ≡ credit.Zero = x.0 in rw (e, y) (omega arith)) d;
+  live = ⊎_elim (λ x. let y : a.place.credit ≡ credit.One = x.0 in rw (e, y) (omega arith))
+      (λ x. let y : a.place.credit ≡ credit.Zero = x.0 in rw (e, y) (omega arith)) d;
   asks = rw e (omega arith);
   given = rw e (omega arith);
   line_given = omega arith;
   units = rw e (omega arith);
 }
 take_balanced s p v kind.Line taken rest a e d = record {
-  live = ⊎_elim (λ x. let y : a.place.credit ≡ credit.One = x.0 in rw (e, y) (omega arith)) (λ x. let y : a.place.credit ≡ credit.Zero = x.0 in rw (e, y) (omega arith)) d;
+  live = ⊎_elim (λ x. let y : a.place.credit ≡ credit.One = x.0 in rw (e, y) (omega arith))
+      (λ x. let y : a.place.credit ≡ credit.Zero = x.0 in rw (e, y) (omega arith)) d;
   asks = omega arith;
   given = omega arith;
   line_given = rw e (omega arith);
   units = rw e (omega arith);
 }
 
-take_counted : {I : Type 0} (s : Setup) (old : World I) (p v : ℕ) (k : Kind) (taken rest : List I) → old.edge k p v ≡ Loot taken →
-    Counted s p (old.place p) (own s old kind.Steal p busy) (own s old kind.Line p busy) (free s old p) → (n m f : ℕ) →
+take_counted : {I : Type 0} (s : Setup) (old : World I) (p v : ℕ) (k : Kind) (taken rest : List I)
+    → old.edge k p v ≡ Loot taken →
+    Counted s p (old.place p) (own s old kind.Steal p busy) (own s old kind.Line p busy) (free s old p)
+    → (n m f : ℕ) →
     n + pick kind.Steal k (busy (old.edge k p v)) ≡ own s old kind.Steal p busy + pick kind.Steal k 0 →
     m + pick kind.Line k (busy (old.edge k p v)) ≡ own s old kind.Line p busy + pick kind.Line k 0 →
     Counted s p (after s (event.Take p v k) taken rest (touched old (event.Take p v k))).place n m f
 take_counted s old p v kind.Steal taken rest is c n m f en em =
     let e : n + 1 ≡ own s old kind.Steal p busy + 0 = rw is at en in
     let e3 : m + 0 ≡ own s old kind.Line p busy + 0 = em in
-    record { asks = (let a = c.asks in omega arith); lines = (let a = c.lines in omega arith); line_asks = (let a = c.line_asks in omega arith) }
+    record {
+      asks = (let a = c.asks in omega arith);
+      lines = (let a = c.lines in omega arith);
+      line_asks =
+          (let a = c.line_asks in omega arith);
+    }
 take_counted s old p v kind.Line taken rest is c n m f en em =
     let e : n + 0 ≡ own s old kind.Steal p busy + 0 = en in
     let e3 : m + 1 ≡ own s old kind.Line p busy + 0 = rw is at em in
-    record { asks = (let a = c.asks in omega arith); lines = (let a = c.lines in omega arith); line_asks = (let a = c.line_asks in omega arith) }
+    record {
+      asks = (let a = c.asks in omega arith);
+      lines = (let a = c.lines in omega arith);
+      line_asks =
+          (let a = c.line_asks in omega arith);
+    }
 
-take_naps : {I : Type 0} (k : Kind) (a : Part I) (n w b : ℕ) → Taker k a → n + b ≡ w + no_credit a.credit → n + b ≡ (w + slept a.phase) + no_credit (took a.credit)
+take_naps : {I : Type 0} (k : Kind) (a : Part I) (n w b : ℕ) → Taker k a → n + b ≡ w + no_credit a.credit
+    → n + b ≡ (w + slept a.phase) + no_credit (took a.credit)
 take_naps k a n w b d h = ⊎_elim
-    (λ x. let y : a.credit ≡ credit.One = x.0 in let z : slept a.phase ≡ 0 = x.1 in rw (y, z) (let g : n + b ≡ w + 0 = rw y at h in omega arith))
-    (λ x. let y : a.credit ≡ credit.Zero = x.0 in let z : slept a.phase ≡ 1 = x.1 in rw (y, z) (let g : n + b ≡ w + 1 = rw y at h in omega arith))
+    (λ x. let y : a.credit ≡ credit.One = x.0 in let z : slept a.phase ≡ 0 = x.1
+    in rw (y, z) (let g : n + b ≡ w + 0 = rw y at h in omega arith))
+    (λ x. let y : a.credit ≡ credit.Zero = x.0 in let z : slept a.phase ≡ 1 = x.1
+    in rw (y, z) (let g : n + b ≡ w + 1 = rw y at h in omega arith))
     d
 
-take_wakes : {I : Type 0} (k : Kind) (a : Part I) (w g : ℕ) → Taker k a → w ≤ g → w + slept a.phase ≤ g + of_kind k 0 1
+take_wakes : {I : Type 0} (k : Kind) (a : Part I) (w g : ℕ) → Taker k a → w ≤ g
+    → w + slept a.phase ≤ g + of_kind k 0 1
 take_wakes k a w g d h = ⊎_elim
     (λ x. let z : slept a.phase ≡ 0 = x.1 in omega arith)
     (λ x. let z : slept a.phase ≡ 1 = x.1 in rw x.2 (omega arith))
     d
 
-pub take_keeps : {I : Type 0} (children : I → List I) (s : Setup) (old new : World I) (p v : ℕ) (k : Kind) → IsProper s → IsLawful s old → Step children s old (event.Take p v k) new → IsLawful s new
+pub take_keeps : {I : Type 0} (children : I → List I) (s : Setup) (old new : World I) (p v : ℕ) (k : Kind)
+    → IsProper s → IsLawful s old → Step children s old (event.Take p v k) new → IsLawful s new
 take_keeps children s old new p v k P L st =
     let l = st.in_range.0 in
     let m = st.in_range.2 in
@@ -110,10 +136,14 @@ take_keeps children s old new p v k P L st =
     by_thief s old new p k v _ st.becomes m l L (record {
       apart = apart s P k p v (is_there T (λ z. cc));
       inner = record {
-        fits = (omega (arith, length-append st.taken (old.place p).bag), took_not_zero (old.place p).credit);
+        fits = (
+          omega (arith, length-append st.taken (old.place p).bag),
+          took_not_zero (old.place p).credit,
+        );
         tries = i.tries;
         items = i.items;
-        naps = take_naps k (old.place p) (old.place p).count.sleeps (old.place p).count.wakes (bit (not (s.awake p))) t i.naps;
+        naps = take_naps k (old.place p) (old.place p).count.sleeps (old.place p).count.wakes
+            (bit (not (s.awake p))) t i.naps;
         asks = (let a = i.asks in omega arith);
         sent = i.sent;
         wakes = take_wakes k (old.place p) (old.place p).count.wakes (old.place p).count.line_got t i.wakes;
@@ -123,11 +153,17 @@ take_keeps children s old new p v k P L st =
       live = refl;
       stop = refl;
       not_gone = λ e. cc;
-      thief_else = λ j u n d. moved_on (L.thief j p u l n) (w.1 j u d) w.0 refl (λ z. absurd (took_not_zero (old.place p).credit z));
+      thief_else = λ j u n d.
+          moved_on (L.thief j p u l n) (w.1 j u d) w.0 refl
+          (λ z. absurd (took_not_zero (old.place p).credit z));
       thief_named = idle_again refl (took_not_zero (old.place p).credit);
       marks = refl;
       still_asked = λ e. absurd (cc);
-      can_give = λ x y. ⊎_elim (λ z. let q : (old.place p).credit ≡ credit.One = z.0 in let r : took credit.One ≡ credit.Minted = rw q at y in cc) (λ z. let q : (old.place p).credit ≡ credit.Zero = z.0 in let r : took credit.Zero ≡ credit.Minted = rw q at y in cc) t;
+      can_give = λ x y. ⊎_elim
+          (λ z. let q : (old.place p).credit ≡ credit.One = z.0 in
+          let r : took credit.One ≡ credit.Minted = rw q at y in cc)
+          (λ z. let q : (old.place p).credit ≡ credit.Zero = z.0 in
+          let r : took credit.Zero ≡ credit.Minted = rw q at y in cc) t;
       wants = λ x. absurd (⊎_elim (λ y. cc) (λ y. let z : old.edge k p v ≡ Refused = y.1 in cc) x);
       counted = λ n o f en em ef. take_counted s old p v k st.taken st.rest is (L.counted p l) n o f en em;
       balanced = take_balanced s p v k st.taken st.rest (touched old (event.Take p v k)) is t;

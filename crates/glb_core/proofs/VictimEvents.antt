@@ -19,7 +19,8 @@ use Rattle.glb_core.specs.declared.kinds.Mark.TheVariants as mark
 use Rattle.glb_core.specs.declared.part.Part.{Part}
 
 -- what an event of a victim owes
-pub record ServedLocal {I : Type 0} (s : Setup) (old new : World I) (p : ℕ) (k : Kind) (t : ℕ) (b : Change I) : Type 0 where
+pub record ServedLocal {I : Type 0} (s : Setup) (old new : World I) (p : ℕ) (k : Kind) (t : ℕ)
+    (b : Change I) : Type 0 where
   pub apart : t ≢ p
   pub inner : Inner s p b.place
   pub live : b.live ≡ old.live
@@ -28,15 +29,19 @@ pub record ServedLocal {I : Type 0} (s : Setup) (old new : World I) (p : ℕ) (k
   pub not_gone : (old.place p).phase ≢ phase.Gone
   pub same_credit : b.place.credit ≡ credit.Zero → (old.place p).credit ≡ credit.Zero
   pub thief_named : ThiefSide s k t p (old.place t) b.edge
-  pub victim_else : (j : Kind) (u : ℕ) → u < s.places → (j ≢ k) ⊎ (u ≢ t) → VictimSide s j u p b.place (old.edge j u p)
+  pub victim_else : (j : Kind) (u : ℕ) → u < s.places → (j ≢ k) ⊎ (u ≢ t)
+      → VictimSide s j u p b.place (old.edge j u p)
   pub victim_named : VictimSide s k t p b.place b.edge
-  pub can_give : b.place.phase ≡ phase.Working → b.place.credit ≡ credit.Minted → (1 < length b.place.bag) × IsWanted s new p
-  pub counted : Counted s p b.place (own s old kind.Steal p busy) (own s old kind.Line p busy) (free s old p)
+  pub can_give : b.place.phase ≡ phase.Working → b.place.credit ≡ credit.Minted → (1 < length b.place.bag)
+      × IsWanted s new p
+  pub counted : Counted s p b.place (own s old kind.Steal p busy) (own s old kind.Line p busy)
+      (free s old p)
   pub same_busy : busy b.edge ≡ busy (old.edge k t p)
   pub same_idle : idle b.edge ≡ idle (old.edge k t p)
   pub balanced : Balanced k (touched_at old p (name_of k t p)) b
 
-pub served : {I : Type 0} (s : Setup) (old new : World I) (p : ℕ) (k : Kind) (t : ℕ) (b : Change I) → Becomes old new p (name_of k t p) b →
+pub served : {I : Type 0} (s : Setup) (old new : World I) (p : ℕ) (k : Kind) (t : ℕ) (b : Change I)
+    → Becomes old new p (name_of k t p) b →
     p < s.places → t < s.places → IsLawful s old → ServedLocal s old new p k t b → IsLawful s new
 served s old new p k t b h l m L a = keeps s old new p (name_of k t p) b h l m l L (record {
   inner = a.inner;
@@ -44,29 +49,34 @@ served s old new p k t b h l m L a = keeps s old new p (name_of k t p) b h l m l
   quiet = λ z. (sym a.stop ∙ z, λ n. a.live ∙ n);
   thief_else = λ j v n d. thief_same (L.thief j p v l n) a.same_phase a.same_credit;
   thief_named = rw (h.other_places t a.apart) a.thief_named;
-  victim_else = λ j u n d. a.victim_else j u n (⊎_elim (λ x. inl x) (λ x. ⊎_elim (λ y. inr y) (λ y. absurd (y refl)) x) d);
+  victim_else = λ j u n d.
+      a.victim_else j u n (⊎_elim (λ x. inl x) (λ x. ⊎_elim (λ y. inr y) (λ y. absurd (y refl)) x) d);
   victim_named = rw h.place a.victim_named;
   can_give = rw h.place a.can_give;
   wants = λ d. absurd (d refl);
   counted = rw (
     own_else s old new p (name_of k t p) b h (λ v. busy) kind.Steal p (inr (λ e. a.apart (sym e))),
     own_else s old new p (name_of k t p) b h (λ v. busy) kind.Line p (inr (λ e. a.apart (sym e))),
-    own_else s old new p (name_of k t p) b h (λ v e. cond (has_line s p v) (idle e) 0) kind.Line p (inr (λ e. a.apart (sym e))),
+    own_else s old new p (name_of k t p) b h (λ v e. cond (has_line s p v) (idle e) 0) kind.Line p
+        (inr (λ e. a.apart (sym e))),
   ) a.counted;
   counted_else = λ d. (a.same_busy, a.same_idle);
   balanced = a.balanced;
 })
 
 -- one mark of the victim set
-pub victim_set : {I : Type 0} {s : Setup} {a b : Part I} {e : WorldEdge I} (k : Kind) (t : ℕ) (x : Mark) (j : Kind) (u p : ℕ) →
+pub victim_set : {I : Type 0} {s : Setup} {a b : Part I} {e : WorldEdge I} (k : Kind) (t : ℕ) (x : Mark)
+    (j : Kind) (u p : ℕ) →
     b.marks ≡ put_mark a.marks k t x → (j ≢ k) ⊎ (u ≢ t) → VictimSide s j u p a e → VictimSide s j u p b e
 victim_set {a = a} k t x j u p same d o = record {
   pending = rw (same, set_mark_else (mark_at a.marks) k t x j u d) o.pending;
   unseen = rw (same, set_mark_else (mark_at a.marks) k t x j u d) o.unseen;
 }
 
-pub victim_at : {I : Type 0} {s : Setup} {b : Part I} {e : WorldEdge I} (a : Part I) (k : Kind) (t p : ℕ) (x : Mark) →
-    b.marks ≡ put_mark a.marks k t x → (x ≡ mark.Pending → e ≡ Asked) → has_edge s k t p ≡ true → VictimSide s k t p b e
+pub victim_at : {I : Type 0} {s : Setup} {b : Part I} {e : WorldEdge I} (a : Part I) (k : Kind) (t p : ℕ)
+    (x : Mark) →
+    b.marks ≡ put_mark a.marks k t x → (x ≡ mark.Pending → e ≡ Asked) → has_edge s k t p ≡ true
+    → VictimSide s k t p b e
 victim_at a k t p x same d there = record {
   pending = rw (same, set_mark_at (mark_at a.marks) k t x) d;
   unseen = λ f. absurd (cc);

@@ -31,22 +31,32 @@ use Rattle.glb_core.proofs.SlotFacts.{slot_apart, slot_below, of_index}
 use Rattle.glb_core.proofs.SeatFacts.{effect_part, effect_edge}
 
 -- the view with other seats, slots and numbers
-abbrev pub changed : {B V : Type 0} → WorldView B V → List (Seat B) → List (Slot B) → ℕ → ℕ → ℕ → V → WorldView B V
-changed x seats slots live stop total value = record x { seats = seats; slots = slots; live = live; stop = stop; total = total; value = value }
+abbrev pub changed : {B V : Type 0} → WorldView B V → List (Seat B) → List (Slot B) → ℕ → ℕ → ℕ → V
+    → WorldView B V
+changed x seats slots live stop total value =
+    record x { seats = seats; slots = slots; live = live; stop = stop; total = total; value = value }
 
 module _ {B I V : Type 0} (items : B → List I) (s : Setup) (x : WorldView B V) (w : World I) where
   pub places_are : Shows items s x w → s.places ≡ x.cube.places
   places_are S = ap (λ t. t.places) S.setup
 
-  pub seat_shown : StandsFor items s x w → (p i : ℕ) (r : Seat B) → i ≡ p → p < x.cube.places → r ≡ get_or x.seats i r → ShowsPart items x.params.seed x.cube.places p r (w.place p)
-  seat_shown S p i r e l h = subst (λ q. ShowsPart items x.params.seed x.cube.places p q (w.place p)) (sym (h ∙ ap (λ j. get_or x.seats j r) e)) (S.shows.seat p r l)
+  pub seat_shown : StandsFor items s x w → (p i : ℕ) (r : Seat B) → i ≡ p → p < x.cube.places
+      → r ≡ get_or x.seats i r → ShowsPart items x.params.seed x.cube.places p r (w.place p)
+  seat_shown S p i r e l h =
+      subst (λ q. ShowsPart items x.params.seed x.cube.places p q (w.place p))
+      (sym (h ∙ ap (λ j. get_or x.seats j r) e)) (S.shows.seat p r l)
 
-  pub slot_shown : StandsFor items s x w → (k : Kind) (t v j : ℕ) (z : Slot B) → j ≡ slot_index x.cube.places k t v → t < x.cube.places → v < x.cube.places → z ≡ get_or x.slots j z → edge_in items z ≡ w.edge k t v
+  pub slot_shown : StandsFor items s x w → (k : Kind) (t v j : ℕ) (z : Slot B)
+      → j ≡ slot_index x.cube.places k t v → t < x.cube.places → v < x.cube.places
+      → z ≡ get_or x.slots j z → edge_in items z ≡ w.edge k t v
   slot_shown S k t v j z e l m h =
       let below = slot_below x.cube.places k t v l m in
-      of_index (λ y. edge_in items y ≡ w.edge k t v) x.slots j (slot_index x.cube.places k t v) z kept.Idle h (let a = S.shows.slots in omega arith) e (S.shows.slot k t v l m)
+      of_index (λ y. edge_in items y ≡ w.edge k t v) x.slots j (slot_index x.cube.places k t v) z
+      kept.Idle h (let a = S.shows.slots in omega arith) e (S.shows.slot k t v l m)
 
-  pub shown : Shows items s x w → (p : ℕ) (c : EdgeName) (b : Change I) (r : Seat B) (z : Slot B) (seats : List (Seat B)) (slots : List (Slot B)) (live stop total : ℕ) (value : V)
+  pub shown : Shows items s x w
+      → (p : ℕ) (c : EdgeName) (b : Change I) (r : Seat B) (z : Slot B) (seats : List (Seat B))
+      (slots : List (Slot B)) (live stop total : ℕ) (value : V)
       → p < x.cube.places → c.thief < x.cube.places → c.victim < x.cube.places
       → seats ≡ set x.seats p r → slots ≡ set x.slots (slot_index x.cube.places c.kind c.thief c.victim) z
       → live ≡ b.live → stop ≡ b.stop
@@ -64,19 +74,39 @@ module _ {B I V : Type 0} (items : B → List I) (s : Setup) (x : WorldView B V)
         seats = rw hp (length-set x.seats p r ∙ S.seats);
         slots = rw hs (length-set x.slots at z ∙ S.slots);
         seat = λ q d j. ⊎_elim
-            (λ (o : q ≡ p). rw (o, hp, h.place, get_or-set_same x.seats p r d (let a = S.seats in omega arith)) part)
+            (λ (o : q ≡ p). rw (
+              o,
+              hp,
+              h.place,
+              get_or-set_same x.seats p r d (let a = S.seats in omega arith),
+            ) part)
             (λ o. rw (hp, h.other_places q o, get_or-set_other x.seats p q r d o) (S.seat q d j))
             (cases_eq q p);
         slot = λ k t v i j. ⊎_elim
-            (λ same. rw (same.0, same.1, same.2, hs, h.edge, get_or-set_same x.slots at z kept.Idle (let a = S.slots in let u = slot_below x.cube.places c.kind c.thief c.victim m n in omega arith)) edge)
-            (λ o. rw (hs, h.other_edges k t v o, get_or-set_other x.slots at (slot_index x.cube.places k t v) z kept.Idle (slot_apart x.cube.places c k t v i m o)) (S.slot k t v i j))
+            (λ same. rw (
+              same.0,
+              same.1,
+              same.2,
+              hs,
+              h.edge,
+              get_or-set_same x.slots at z kept.Idle
+                  (let a = S.slots in let u = slot_below x.cube.places c.kind c.thief c.victim m n
+                  in omega arith),
+            ) edge)
+            (λ o. rw (
+              hs,
+              h.other_edges k t v o,
+              get_or-set_other x.slots at (slot_index x.cube.places k t v) z kept.Idle
+                  (slot_apart x.cube.places c k t v i m o),
+            ) (S.slot k t v i j))
             (name_cases c k t v);
         live = hl;
         stop = hh;
       }
 
 -- an event that moves and expands no items has no choice, and leaves the items done as they are
-choice_of : {I : Type 0} (children : I → List I) (s : Setup) (e : Event) (a : Change I) → IsSimple e → Choice children s e [] [] a
+choice_of : {I : Type 0} (children : I → List I) (s : Setup) (e : Event) (a : Change I) → IsSimple e
+    → Choice children s e [] [] a
 choice_of children s (event.Look q t k) a simple = tt
 choice_of children s (event.Ask p v k) a simple = tt
 choice_of children s (event.Deny q t k) a simple = tt
@@ -123,7 +153,9 @@ no_batch (event.Batch p) simple = absurd simple
 no_batch (event.Give q t k) simple = absurd simple
 no_batch (event.Take p v k) simple = absurd simple
 
-done_stays : {I : Type 0} (most : ℕ) (e : Event) (taken rest : List I) (found : _) (a : Part I) → IsNoBatch e → ((place_after most e taken rest found a).done ≡ a.done) × ((place_after most e taken rest found a).count.items ≡ a.count.items)
+done_stays : {I : Type 0} (most : ℕ) (e : Event) (taken rest : List I) (found : _) (a : Part I)
+    → IsNoBatch e → ((place_after most e taken rest found a).done ≡ a.done)
+    × ((place_after most e taken rest found a).count.items ≡ a.count.items)
 done_stays most (event.Look q t k) taken rest found a simple = (refl, refl)
 done_stays most (event.Ask p v k) taken rest found a simple = (refl, refl)
 done_stays most (event.Deny q t k) taken rest found a simple = (refl, refl)
@@ -137,22 +169,37 @@ done_stays most (event.Leave p) taken rest found a simple = (refl, refl)
 done_stays most (event.Halt p c) taken rest found a simple = (refl, refl)
 done_stays most (event.Batch p) taken rest found a simple = absurd simple
 
-module _ {B I V : Type 0} (items : B → List I) (children : I → List I) (value : I → V) (combine : V → V → V) (unit : V) (s : Setup) (x : WorldView B V) (w : World I) (S : StandsFor items s x w) where
+module _ {B I V : Type 0} (items : B → List I) (children : I → List I) (value : I → V)
+    (combine : V → V → V) (unit : V) (s : Setup) (x : WorldView B V) (w : World I)
+    (S : StandsFor items s x w) where
   pub in_range : (e : Event) → NamesBelow x.cube.places e → IsInRange s e
-  in_range e b = let n = places_are items s x w S.shows in let i = b.0 in let j = b.1 in let k = b.2 in (omega arith, omega arith, omega arith)
+  in_range e b = let n = places_are items s x w S.shows in let i = b.0 in let j = b.1 in let k = b.2
+      in (omega arith, omega arith, omega arith)
 
   -- where the event is no batch, the tables with seat and slot changed stand for the world after it
-  pub stepped : (e : Event) (taken rest : List I) (r : Seat B) (z : Slot B) (seats : List (Seat B)) (slots : List (Slot B)) (live stop : ℕ)
-      → NamesBelow x.cube.places e → IsEnabled s w e → IsNoBatch e → expanded e taken ≡ 0 → Choice children s e taken rest (touched w e)
+  pub stepped : (e : Event) (taken rest : List I) (r : Seat B) (z : Slot B) (seats : List (Seat B))
+      (slots : List (Slot B)) (live stop : ℕ)
+      → NamesBelow x.cube.places e → IsEnabled s w e → IsNoBatch e → expanded e taken ≡ 0
+      → Choice children s e taken rest (touched w e)
       → seats ≡ set x.seats (actor e) r → slots ≡ set x.slots (slot_named x.cube.places e) z
       → live ≡ live_after e x.live → stop ≡ stop_after e x.stop
       → ShowsPart items x.params.seed x.cube.places (actor e) r (after s e taken rest (touched w e)).place
       → edge_in items z ≡ (after s e taken rest (touched w e)).edge
-      → LeadsFrom items children value combine unit x e 0 (changed x seats slots live stop x.total x.value) s w
+      → LeadsFrom items children value combine unit x e 0
+      (changed x seats slots live stop x.total x.value) s w
   stepped e taken rest r z seats slots live stop below enabled plain none choice hp hs hl hh part edge =
       let b = after s e taken rest (touched w e) in
       let new = replaced w (actor e) (edge_of e) b in
-      let st : Step children s w e new = record { in_range = in_range e below; enabled = enabled; taken = taken; rest = rest; choice = choice; becomes = becomes w (actor e) (edge_of e) b } in
+      let st : Step children s w e new =
+      record {
+        in_range = in_range e below;
+        enabled = enabled;
+        taken = taken;
+        rest = rest;
+        choice =
+            choice;
+        becomes = becomes w (actor e) (edge_of e) b;
+      } in
       let h = becomes w (actor e) (edge_of e) b in
       let stay = done_stays s.tries e taken rest (state_of (touched w e).edge) (w.place (actor e)) plain in
       let done : (q : ℕ) → (new.place q).done ≡ (w.place q).done = λ q. ⊎_elim
@@ -170,48 +217,70 @@ module _ {B I V : Type 0} (items : B → List I) (children : I → List I) (valu
         stands = record {
           proper = S.proper;
           lawful = step_keeps children s w new e S.proper S.lawful st;
-          shows = shown items s x w S.shows (actor e) (edge_of e) b r z seats slots live stop x.total x.value below.0 below.1 below.2 hp hs (hl ∙ ap (live_after e) S.shows.live) (hh ∙ ap (stop_after e) S.shows.stop) part edge;
-          total = S.total ∙ sym (sum_same s.places (λ q. (w.place q).count.items) (λ q. (new.place q).count.items) (λ q l. number q));
+          shows = shown items s x w S.shows (actor e) (edge_of e) b r z seats slots live stop x.total
+              x.value below.0 below.1 below.2 hp hs (hl ∙ ap (live_after e) S.shows.live)
+              (hh ∙ ap (stop_after e) S.shows.stop) part edge;
+          total = S.total ∙ sym
+              (sum_same s.places (λ q. (w.place q).count.items) (λ q. (new.place q).count.items)
+              (λ q l. number q));
         };
-        fold = λ f. f ∙ ap (combined value combine unit) (sym (join_same s.places (λ q. (w.place q).done) (λ q. (new.place q).done) (λ q l. done q)));
+        fold = λ f. f ∙ ap (combined value combine unit)
+            (sym (join_same s.places (λ q. (w.place q).done) (λ q. (new.place q).done) (λ q l. done q)));
       }
 
-  pub simply_stepped : (e : Event) (r : Seat B) (z : Slot B) (i j : ℕ) (seats : List (Seat B)) (slots : List (Slot B)) (live stop : ℕ)
+  pub simply_stepped : (e : Event) (r : Seat B) (z : Slot B) (i j : ℕ) (seats : List (Seat B))
+      (slots : List (Slot B)) (live stop : ℕ)
       → NamesBelow x.cube.places e → AsksAnother x.cube.places e → IsSimple e → IsEnabled s w e
       → i ≡ actor e → j ≡ slot_named x.cube.places e → r ≡ get_or x.seats i r → z ≡ get_or x.slots j z
       → seats ≡ set x.seats i (seat_after x.cube.places e z r) → slots ≡ set x.slots j (slot_after e z)
       → live ≡ live_after e x.live → stop ≡ stop_after e x.stop
-      → LeadsFrom items children value combine unit x e 0 (changed x seats slots live stop x.total x.value) s w
+      → LeadsFrom items children value combine unit x e 0
+      (changed x seats slots live stop x.total x.value) s w
   simply_stepped e r z i j seats slots live stop below another simple enabled hi hj hr hz hp hs hl hh =
       let part = seat_shown items s x w S (actor e) i r hi below.0 hr in
-      let edge = slot_shown items s x w S (edge_of e).kind (edge_of e).thief (edge_of e).victim j z hj below.1 below.2 hz in
-      stepped e [] [] (seat_after x.cube.places e z r) (slot_after e z) seats slots live stop below enabled (no_batch e simple) (expanded_none I e simple) (choice_of children s e (touched w e) simple)
-      (hp ∙ ap (λ q. set x.seats q (seat_after x.cube.places e z r)) hi) (hs ∙ ap (λ q. set x.slots q (slot_after e z)) hj) hl hh
-      (effect_part items x.params.seed x.cube.places s.tries r z (w.place (actor e)) (touched w e).edge edge e part below another simple)
-      (effect_edge items x.params.seed x.cube.places s.tries r z (w.place (actor e)) (touched w e).edge edge e simple)
+      let edge = slot_shown items s x w S (edge_of e).kind (edge_of e).thief (edge_of e).victim j z hj
+      below.1 below.2 hz in
+      stepped e [] [] (seat_after x.cube.places e z r) (slot_after e z) seats slots live stop below
+      enabled (no_batch e simple) (expanded_none I e simple)
+      (choice_of children s e (touched w e) simple)
+      (hp ∙ ap (λ q. set x.seats q (seat_after x.cube.places e z r)) hi)
+      (hs ∙ ap (λ q. set x.slots q (slot_after e z)) hj) hl hh
+      (effect_part items x.params.seed x.cube.places s.tries r z (w.place (actor e)) (touched w e).edge
+      edge e part below another simple)
+      (effect_edge items x.params.seed x.cube.places s.tries r z (w.place (actor e)) (touched w e).edge
+      edge e simple)
 
 -- the seat and the slot of an event, as the code finds them
-pub record Found {B V : Type 0} (x : WorldView B V) (e : Event) (i j : ℕ) (r : Seat B) (z : Slot B) : Type 0 where
+pub record Found {B V : Type 0} (x : WorldView B V) (e : Event) (i j : ℕ) (r : Seat B) (z : Slot B) : Type
+    0 where
   pub below : NamesBelow x.cube.places e
   pub at_seat : i ≡ actor e
   pub at_slot : j ≡ slot_named x.cube.places e
   pub seat : r ≡ get_or x.seats i r
   pub slot : z ≡ get_or x.slots j z
 
-pub part_found : {B I V : Type 0} (items : B → List I) (s : Setup) (x : WorldView B V) (w : World I) (e : Event) (i j : ℕ) (r : Seat B) (z : Slot B)
-    → Found x e i j r z → StandsFor items s x w → ShowsPart items x.params.seed x.cube.places (actor e) r (w.place (actor e))
+pub part_found : {B I V : Type 0} (items : B → List I) (s : Setup) (x : WorldView B V) (w : World I)
+    (e : Event) (i j : ℕ) (r : Seat B) (z : Slot B)
+    → Found x e i j r z → StandsFor items s x w
+    → ShowsPart items x.params.seed x.cube.places (actor e) r (w.place (actor e))
 part_found items s x w e i j r z f S = seat_shown items s x w S (actor e) i r f.at_seat f.below.0 f.seat
 
-pub edge_found : {B I V : Type 0} (items : B → List I) (s : Setup) (x : WorldView B V) (w : World I) (e : Event) (i j : ℕ) (r : Seat B) (z : Slot B)
-    → Found x e i j r z → StandsFor items s x w → edge_in items z ≡ w.edge (edge_of e).kind (edge_of e).thief (edge_of e).victim
-edge_found items s x w e i j r z f S = slot_shown items s x w S (edge_of e).kind (edge_of e).thief (edge_of e).victim j z f.at_slot f.below.1 f.below.2 f.slot
+pub edge_found : {B I V : Type 0} (items : B → List I) (s : Setup) (x : WorldView B V) (w : World I)
+    (e : Event) (i j : ℕ) (r : Seat B) (z : Slot B)
+    → Found x e i j r z → StandsFor items s x w
+    → edge_in items z ≡ w.edge (edge_of e).kind (edge_of e).thief (edge_of e).victim
+edge_found items s x w e i j r z f S =
+    slot_shown items s x w S (edge_of e).kind (edge_of e).thief (edge_of e).victim j z f.at_slot f.below.1
+    f.below.2 f.slot
 
 -- what holds of the event as it was matched holds of the event
-pub as_matched : {B V : Type 0} (Q : Event → Type 0) (x : WorldView B V) (e m : Event) (i j : ℕ) (r : Seat B) (z : Slot B)
+pub as_matched : {B V : Type 0} (Q : Event → Type 0) (x : WorldView B V) (e m : Event) (i j : ℕ)
+    (r : Seat B) (z : Slot B)
     → e ≡ m → Found x e i j r z → (Found x m i j r z → Q m) → Q e
 as_matched Q x e m i j r z same f h = subst Q (sym same) (h (subst (λ k. Found x k i j r z) same f))
 
-pub whole_of : {I : Type 0} (s : Setup) (e : Event) (taken rest : List I) → IsNoBatch e → IsWhole s e taken rest
+pub whole_of : {I : Type 0} (s : Setup) (e : Event) (taken rest : List I) → IsNoBatch e
+    → IsWhole s e taken rest
 whole_of s (event.Look q t k) taken rest plain = tt
 whole_of s (event.Ask p v k) taken rest plain = tt
 whole_of s (event.Deny q t k) taken rest plain = tt
@@ -226,11 +295,18 @@ whole_of s (event.Halt p c) taken rest plain = tt
 whole_of s (event.Batch p) taken rest plain = absurd plain
 
 -- who asks, asks another place
-pub another : {I : Type 0} (s : Setup) (w : World I) (n : ℕ) (e : Event) → IsProper s → NamesBelow n e → IsEnabled s w e → AsksAnother n e
+pub another : {I : Type 0} (s : Setup) (w : World I) (n : ℕ) (e : Event) → IsProper s → NamesBelow n e
+    → IsEnabled s w e → AsksAnother n e
 another s w n (event.Look q t k) P b en = tt
 another s w n (event.Batch p) P b en = tt
-another s w n (event.Ask p v kind.Steal) P b en = let d = apart s P kind.Steal p v en.2 in let i = b.0 in let j = b.2 in ⊎_elim (λ (l : p < v). omega arith) (λ (l : v ≤ p). ⊎_elim (λ (e : p ≡ v). absurd (d e)) (λ (e : p ≢ v). omega arith) (cases_eq p v)) (cases_lt p v)
-another s w n (event.Ask p v kind.Line) P b en = let d = apart s P kind.Line p v en.2 in let i = b.0 in let j = b.2 in ⊎_elim (λ (l : p < v). omega arith) (λ (l : v ≤ p). ⊎_elim (λ (e : p ≡ v). absurd (d e)) (λ (e : p ≢ v). omega arith) (cases_eq p v)) (cases_lt p v)
+another s w n (event.Ask p v kind.Steal) P b en = let d = apart s P kind.Steal p v en.2 in let i = b.0 in
+    let j = b.2 in ⊎_elim (λ (l : p < v). omega arith)
+    (λ (l : v ≤ p). ⊎_elim (λ (e : p ≡ v). absurd (d e)) (λ (e : p ≢ v). omega arith) (cases_eq p v))
+    (cases_lt p v)
+another s w n (event.Ask p v kind.Line) P b en = let d = apart s P kind.Line p v en.2 in let i = b.0 in
+    let j = b.2 in ⊎_elim (λ (l : p < v). omega arith)
+    (λ (l : v ≤ p). ⊎_elim (λ (e : p ≡ v). absurd (d e)) (λ (e : p ≢ v). omega arith) (cases_eq p v))
+    (cases_lt p v)
 another s w n (event.Deny q t k) P b en = tt
 another s w n (event.Mint q) P b en = tt
 another s w n (event.Give q t k) P b en = tt
@@ -241,7 +317,8 @@ another s w n (event.Sleep p) P b en = tt
 another s w n (event.Leave p) P b en = tt
 another s w n (event.Halt p c) P b en = tt
 
-pub live_fits : {B I V : Type 0} (items : B → List I) (s : Setup) (x : WorldView B V) (w : World I) → StandsFor items s x w → x.live ≤ 8320
+pub live_fits : {B I V : Type 0} (items : B → List I) (s : Setup) (x : WorldView B V) (w : World I)
+    → StandsFor items s x w → x.live ≤ 8320
 live_fits items s x w S =
     let n = places_are items s x w S.shows in
     let l = S.shows.limits.places.1 in

@@ -13,7 +13,8 @@ victim_of word places thief =
 -- the place as its stream
 unfoldable pub word : ℕ → ℕ → ℕ → ℕ
 word seed p number =
-    output_xsh_rr (advance 64 multiplier_64 number (started 64 multiplier_64 seed (increment_of 64 p))).state
+    output_xsh_rr (advance 64 multiplier_64 number
+    (started 64 multiplier_64 seed (increment_of 64 p))).state
 
 -- the victim that the place's word of this number gives; 0 at one place
 abbrev pub drawn : ℕ → ℕ → ℕ → ℕ → ℕ

@@ -14,14 +14,26 @@ use Rattle.glb_core.specs.declared.world.seat.Slot.TheVariants as slot
 use Rattle.glb_core.specs.Tables.{WorldView, capped, capped_wide, edge_in}
 
 abbrev pub count_given : Kind → ℕ → Counters → Counters
-count_given kind.Steal units c = record c { given = capped (c.given + 1); sent_units = capped_wide (c.sent_units + units) }
-count_given kind.Line units c = record c { line_given = capped (c.line_given + 1); sent_units = capped_wide (c.sent_units + units) }
+count_given kind.Steal units c =
+    record c { given = capped (c.given + 1); sent_units = capped_wide (c.sent_units + units) }
+count_given kind.Line units c =
+    record c { line_given = capped (c.line_given + 1); sent_units = capped_wide (c.sent_units + units) }
 
 abbrev pub count_got : Kind → ℕ → ℕ → Counters → Counters
 count_got kind.Steal units woken c =
-    record c { got = capped (c.got + 1); got_units = capped_wide (c.got_units + units); wakes = capped (c.wakes + woken) }
+    record c {
+      got = capped (c.got + 1);
+      got_units = capped_wide (c.got_units + units);
+      wakes =
+          capped (c.wakes + woken);
+    }
 count_got kind.Line units woken c =
-    record c { line_got = capped (c.line_got + 1); got_units = capped_wide (c.got_units + units); wakes = capped (c.wakes + woken) }
+    record c {
+      line_got = capped (c.line_got + 1);
+      got_units = capped_wide (c.got_units + units);
+      wakes =
+          capped (c.wakes + woken);
+    }
 
 -- the units of a bag
 abbrev pub units_in : {B I : Type 0} → (B → List I) → B → ℕ

@@ -54,4 +54,5 @@ IsDecided seed s w e =
 abbrev pub DecidedRun : {I : Type 0} → (I → List I) → Setup → ℕ → World I → List Event → World I → Type 0
 DecidedRun children s seed old [] new = new ≡ old
 DecidedRun children s seed old (e ∷ es) new =
-    (mid : World _) × IsDecided seed s old e × Step children s old e mid × DecidedRun children s seed mid es new
+    (mid : World _) × IsDecided seed s old e × Step children s old e mid
+    × DecidedRun children s seed mid es new

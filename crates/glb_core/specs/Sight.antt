@@ -29,7 +29,14 @@ pub record Sight : Type 0 where
 
 -- what a Seen tells: the lists in its vectors, and its other fields
 abbrev pub sight : Seen → Sight
-sight z = record { ins = z.ins.items; outs = z.outs.items; waited = z.waited; ended = z.ended; stop = z.stop }
+sight z = record {
+  ins = z.ins.items;
+  outs = z.outs.items;
+  waited = z.waited;
+  ended = z.ended;
+  stop =
+      z.stop;
+}
 
 -- a member for each number below the bound that passes, by rising number
 abbrev pub each_below : {A : Type 0} → ℕ → (ℕ → Bool) → (ℕ → A) → List A

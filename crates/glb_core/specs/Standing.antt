@@ -94,16 +94,21 @@ pub record Tells {B I V : Type 0} (items : B → List I) (x : WorldView B V) (e 
 -- no other event wants any
 abbrev pub MemoryFails : {B I V : Type 0} → (B → List I) → (I → List I) → (I → V) → (V → V → V)
     → V → WorldView B V → Event → WorldView B V → Type 0
-MemoryFails items children value combine unit old (Batch p) new = LeadsInPart items children value combine unit old (Batch p) new
-MemoryFails {I = I} items children value combine unit old (Give q t k) new = StandsAlike {I = I} items old new
-MemoryFails {I = I} items children value combine unit old (Take p v k) new = StandsAlike {I = I} items old new
+MemoryFails items children value combine unit old (Batch p) new =
+    LeadsInPart items children value combine unit old (Batch p) new
+MemoryFails {I = I} items children value combine unit old (Give q t k) new =
+    StandsAlike {I = I} items old new
+MemoryFails {I = I} items children value combine unit old (Take p v k) new =
+    StandsAlike {I = I} items old new
 MemoryFails items children value combine unit old _ new = ⊥
 
 -- what a fault tells
 abbrev pub Fails : {B I V : Type 0} → (B → List I) → (I → List I) → (I → V) → (V → V → V) → V
     → WorldView B V → Event → WorldView B V → StepFault → Type 0
-Fails {I = I} items children value combine unit old e new fault.NotEnabled = HasNoCase {I = I} items old e × (new ≡ old)
-Fails items children value combine unit old e new fault.NoMemory = MemoryFails items children value combine unit old e new
+Fails {I = I} items children value combine unit old e new fault.NotEnabled = HasNoCase {I = I} items old e
+    × (new ≡ old)
+Fails items children value combine unit old e new fault.NoMemory =
+    MemoryFails items children value combine unit old e new
 
 -- the setup of these parameters over this lifeline graph, in which the places whose bags have
 -- items are awake
@@ -115,7 +120,8 @@ abbrev pub StartsAt : {B I V : Type 0} → (B → List I) → V → Params → L
     → Type 0
 StartsAt items unit params bags x =
     (x.params ≡ params) × (x.value ≡ unit)
-    × StandsFor items (first_setup x.cube x.params bags) x (start (first_setup x.cube x.params bags) (λ p. get_or bags p []))
+    × StandsFor items (first_setup x.cube x.params bags) x
+    (start (first_setup x.cube x.params bags) (λ p. get_or bags p []))
 
 -- each bag of the list fits the program
 abbrev pub ListsFit : {B P : Type 0} → (B → P → Type 0) → P → List B → Type 0

@@ -56,7 +56,8 @@ count_shrug kind.Line c = c
 
 -- the seat of the place whose event it is, at one of n places
 abbrev pub seat_after : {B : Type 0} → ℕ → Event → Slot B → Seat B → Seat B
-seat_after n (Look q t k) z r = record r { marks = with_item r.marks (mark_index n k t) (looked (face_of z)) }
+seat_after n (Look q t k) z r =
+    record r { marks = with_item r.marks (mark_index n k t) (looked (face_of z)) }
 seat_after n (Batch p) z r = r
 seat_after n (Ask p v k) z r = asks n p v k r
 seat_after n (Deny q t k) z r = record r {

@@ -72,7 +72,8 @@ pub record ShowsPart {B I : Type 0} (items : B → List I) (seed n p : ℕ) (r :
       ≡ mark_at a.marks k t
   pub counters : r.counters ≡ counters_of a.count
   pub words :
-      1 < n → r.words ≡ advance 64 multiplier_64 (a.count.asks + 1) (started 64 multiplier_64 seed (increment_of 64 p))
+      1 < n → r.words ≡ advance 64 multiplier_64 (a.count.asks + 1)
+      (started 64 multiplier_64 seed (increment_of 64 p))
   pub victim : r.victim ≡ drawn seed n p a.count.asks
 
 -- the view shows the world over this setup
@@ -147,7 +148,8 @@ pub record FirstSeats {B I : Type 0} (items : B → List I) (params : Params) (b
   pub number_is : length seats ≡ number
   pub seat :
       (p : ℕ) (d : Seat B) → p < number
-      → ShowsPart items params.seed params.places p (get_or seats p d) (first_part (tries_of params) (bag_of p))
+      → ShowsPart items params.seed params.places p (get_or seats p d)
+      (first_part (tries_of params) (bag_of p))
 
 -- a seat that had no bag yet, with this one
 abbrev pub seated : {B I : Type 0} → (B → List I) → B → Seat B → Seat B

@@ -1,4 +1,4 @@
-//! The decision of a place. Each edge is read at most once.
+//! The decision of a place, by walks over what it sees.
 ghost use Rattle.std.specs.Prelude.{◌≡◌, ◌≢◌, ℕ, List, None};
 ghost use Rattle.glb_core.specs.Sight.{sight};
 ghost use Rattle.glb_core.specs.Decision.{decide, by_credit, by_phase, not_working, waiting, first, is_unseen, is_pending, is_asked, is_held, is_idle, wants, has_loot, MintedSeesWant};
@@ -57,14 +57,14 @@ fn next_working(state: &PlaceState, seen: &Seen) -> Action
     ensures { result ≡ by_phase Phase.Working state.now (sight seen.now) }
 {
     let place = state.place;
-    let requests = requests_of(&seen.ins);
-    if let Some(edge) = requests.unseen {
+    if let Some(edge) = first_unseen(&seen.ins) {
         return Action::Do(Event::Look {
             place,
             thief: edge.thief,
             kind: edge.kind,
         });
     }
+    let requests = requests_of(&seen.ins);
     if state.size >= 2 && requests.wanting.is_some() {
         return Action::Do(Event::Mint { place });
     }
@@ -146,47 +146,45 @@ fn take_line(place: u32, line: OutEdge) -> Action
     })
 }
 
+/// Most turns of a Working place are looks, and this walk reads marks alone.
+fn first_unseen(ins: &[InEdge]) -> Option<InEdge>
+    ensures { result ≡ first is_unseen ins.now }
+{
+    for edge in ins {
+        if matches!(edge.mark, Mark::Unseen) {
+            return Some(*edge);
+        }
+    }
+    None
+}
+
 /// What a Working place has to answer: the first in-edge of each sort.
 #[derive(Clone, Copy)]
 struct Requests {
-    unseen: Option<InEdge>,
     wanting: Option<InEdge>,
     pending: Option<InEdge>,
 }
 
-/// Stops at an edge that is Unseen, since a place looks at it before it answers others.
 fn requests_of(ins: &[InEdge]) -> Requests
-    ensures unseen { result.unseen ≡ first is_unseen ins.now }
-    ensures wanting { result.unseen ≡ None → result.wanting ≡ first wants ins.now }
-    ensures pending { result.unseen ≡ None → result.pending ≡ first is_pending ins.now }
+    ensures wanting { result.wanting ≡ first wants ins.now }
+    ensures pending { result.pending ≡ first is_pending ins.now }
 {
     let mut wanting = None;
     let mut pending = None;
     for edge in ins {
         match edge.mark {
-            Mark::Unseen => {
-                return Requests {
-                    unseen: Some(*edge),
-                    wanting,
-                    pending,
-                };
-            }
             Mark::Pending => {
                 wanting = wanting.or(Some(*edge));
                 pending = pending.or(Some(*edge));
             }
-            Mark::Clear => {
+            Mark::Unseen | Mark::Clear => {
                 if is_remembered(edge) {
                     wanting = wanting.or(Some(*edge));
                 }
             }
         }
     }
-    Requests {
-        unseen: None,
-        wanting,
-        pending,
-    }
+    Requests { wanting, pending }
 }
 
 /// The request over this lifeline was refused, and is remembered.

@@ -270,7 +270,8 @@ fn clear_of_steals<B>(seat: &Seat<B>, places: u32, place: u32) -> bool
     requires few { places ≤ 64 }
     requires marks { vec_len seat.now.marks ≡ 2 * places }
     ensures { result ≡ true ↔ AllOthers places place
-        (λ t. get_or seat.now.marks.items (spec_mark_index places variant_kind.Steal t) variant_mark.Unseen ≡ variant_mark.Clear) }
+        (λ t. get_or seat.now.marks.items (spec_mark_index places variant_kind.Steal t) variant_mark.Unseen
+        ≡ variant_mark.Clear) }
 {
     for thief in 0..places {
         if thief != place && !is_clear(seat.marks[mark_index(places, Kind::Steal, thief)]) {
@@ -286,7 +287,8 @@ fn clear_of_lines<B>(seat: &Seat<B>, places: u32, thieves: &[u32]) -> bool
     requires thieves { All (λ t. t < places) thieves.now }
     requires marks { vec_len seat.now.marks ≡ 2 * places }
     ensures { result ≡ true ↔ EachIn thieves.now
-        (λ t. get_or seat.now.marks.items (spec_mark_index places variant_kind.Line t) variant_mark.Unseen ≡ variant_mark.Clear) }
+        (λ t. get_or seat.now.marks.items (spec_mark_index places variant_kind.Line t) variant_mark.Unseen
+        ≡ variant_mark.Clear) }
 {
     for thief in thieves {
         if !is_clear(seat.marks[mark_index(places, Kind::Line, *thief)]) {
@@ -322,7 +324,8 @@ fn is_asked_by_lines<B>(slots: &[Slot<B>], places: u32, place: u32, thieves: &[u
     requires thieves { All (λ t. t < places) thieves.now }
     requires slots { length slots.now ≡ places * 2 * places }
     ensures found { result ≡ true → (i : ℕ) × (i < length thieves.now)
-        × IsOpen (get_or slots.now (spec_slot_index places variant_kind.Line (get_or thieves.now i 0) place) kept.Idle) }
+        × IsOpen (get_or slots.now (spec_slot_index places variant_kind.Line (get_or thieves.now i 0) place)
+        kept.Idle) }
     ensures none { result ≡ false → EachIn thieves.now
         (λ t. IsOpen (get_or slots.now (spec_slot_index places variant_kind.Line t place) kept.Idle) → ⊥) }
 {
@@ -344,7 +347,8 @@ fn holds_request<B>(slots: &[Slot<B>], places: u32, place: u32, thieves: &[u32])
     requires thieves { All (λ t. t < places) thieves.now }
     requires slots { length slots.now ≡ places * 2 * places }
     ensures found { result ≡ true → (i : ℕ) × (i < length thieves.now)
-        × (get_or slots.now (spec_slot_index places variant_kind.Line (get_or thieves.now i 0) place) kept.Idle ≡ kept.Refused) }
+        × (get_or slots.now (spec_slot_index places variant_kind.Line (get_or thieves.now i 0) place)
+        kept.Idle ≡ kept.Refused) }
     ensures none { result ≡ false → EachIn thieves.now
         (λ t. get_or slots.now (spec_slot_index places variant_kind.Line t place) kept.Idle ≢ kept.Refused) }
 {

@@ -100,7 +100,10 @@ fn count_denied(counters: &mut Counters, kind: Kind)
 /// The request is refused. One over a lifeline stays remembered.
 fn deny<B: Drop>(seat: &mut Seat<B>, slot: &mut Slot<B>, at: usize, kind: Kind)
     requires { at < vec_len seat.old.marks }
-    ensures seat { seat.new ≡ record seat.old { marks = with_item seat.old.marks at mark.Clear; counters = denied_counters kind seat.old.counters } }
+    ensures seat { seat.new ≡ record seat.old {
+      marks = with_item seat.old.marks at mark.Clear;
+      counters = denied_counters kind seat.old.counters;
+    } }
     ensures slot { slot.new ≡ kept.Refused }
 {
     *slot = Slot::Refused;
@@ -110,7 +113,10 @@ fn deny<B: Drop>(seat: &mut Seat<B>, slot: &mut Slot<B>, at: usize, kind: Kind)
 
 /// The thief gives a refused request up, but for one over a lifeline.
 fn shrug<B: Drop>(seat: &mut Seat<B>, slot: &mut Slot<B>, kind: Kind)
-    ensures seat { seat.new ≡ record seat.old { phase = phase.Idle; counters = count_shrug kind seat.old.counters } }
+    ensures seat { seat.new ≡ record seat.old {
+      phase = phase.Idle;
+      counters = count_shrug kind seat.old.counters;
+    } }
     ensures slot { slot.new ≡ slot_shrugged kind slot.old }
 {
     seat.phase = Phase::Idle;
@@ -124,7 +130,11 @@ fn shrug<B: Drop>(seat: &mut Seat<B>, slot: &mut Slot<B>, kind: Kind)
 }
 
 fn sleep<B>(seat: &mut Seat<B>)
-    ensures { seat.new ≡ record seat.old { phase = phase.Asleep; credit = credit.Zero; counters = record (seat.old.counters) { sleeps = capped (seat.old.counters.sleeps + 1) } } }
+    ensures { seat.new ≡ record seat.old {
+      phase = phase.Asleep;
+      credit = credit.Zero;
+      counters = record (seat.old.counters) { sleeps = capped (seat.old.counters.sleeps + 1) };
+    } }
 {
     seat.phase = Phase::Asleep;
     seat.credit = Credit::Zero;

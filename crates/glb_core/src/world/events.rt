@@ -25,8 +25,8 @@ pub(crate) fn apply<P: Program, B: Bag<P>>(
     requires named { NamesBelow tables.old.lines.places event }
     requires simple { IsSimple event }
     requires enabled { HasCase {I = P.Item} B.items (view_of tables.old) event }
-    ensures done { LeadsWholly B.items (P.children program.now) (P.value program.now) P.Value.combine P.Value.unit
-        (view_of tables.old) event 0 (view_of tables.new) }
+    ensures done { LeadsWholly B.items (P.children program.now) (P.value program.now) P.Value.combine
+        P.Value.unit (view_of tables.old) event 0 (view_of tables.new) }
     ensures fits { KeepAllFit B.fits (view_of tables.old) (view_of tables.new) }
     ensures graph { tables.new.lines ≡ tables.old.lines }
     ensures params { tables.new.params ≡ tables.old.params }
@@ -52,8 +52,8 @@ pub(crate) fn give<P: Program, B: Bag<P>>(
     requires named { NamesBelow tables.old.lines.places (event.Give place thief kind) }
     requires enabled { HasCase {I = P.Item} B.items
         (view_of tables.old) (event.Give place thief kind) }
-    ensures given { OnOk result (LeadsWholly B.items (P.children program.now) (P.value program.now) P.Value.combine
-        P.Value.unit (view_of tables.old) (event.Give place thief kind) 0 (view_of tables.new)) }
+    ensures given { OnOk result (LeadsWholly B.items (P.children program.now) (P.value program.now)
+        P.Value.combine P.Value.unit (view_of tables.old) (event.Give place thief kind) 0 (view_of tables.new)) }
     ensures refused { OnErr result (StandsAlike {I = P.Item} B.items (view_of tables.old)
         (view_of tables.new)) }
     ensures fits { KeepAllFit B.fits (view_of tables.old) (view_of tables.new) }
@@ -80,8 +80,8 @@ pub(crate) fn take<P: Program, B: Bag<P>>(
     requires enabled { HasCase {I = P.Item} B.items
         (view_of tables.old) (event.Take place victim kind) }
     requires fits { AllFit B.fits (view_of tables.old) program.now }
-    ensures taken { OnOk result (LeadsWholly B.items (P.children program.now) (P.value program.now) P.Value.combine
-        P.Value.unit (view_of tables.old) (event.Take place victim kind) 0 (view_of tables.new)) }
+    ensures taken { OnOk result (LeadsWholly B.items (P.children program.now) (P.value program.now)
+        P.Value.combine P.Value.unit (view_of tables.old) (event.Take place victim kind) 0 (view_of tables.new)) }
     ensures refused { OnErr result (StandsAlike {I = P.Item} B.items (view_of tables.old)
         (view_of tables.new)) }
     ensures fits { KeepAllFit B.fits (view_of tables.old) (view_of tables.new) }
@@ -109,8 +109,8 @@ pub(crate) fn batch<P: Program, B: Bag<P>>(
     ensures worked { IfOk result
         (λ k. LeadsWholly B.items (P.children program.now) (P.value program.now) P.Value.combine
         P.Value.unit (view_of tables.old) (event.Batch place) k (view_of tables.new)) }
-    ensures cut { OnErr result (LeadsInPart B.items (P.children program.now) (P.value program.now) P.Value.combine
-        P.Value.unit (view_of tables.old) (event.Batch place) (view_of tables.new)) }
+    ensures cut { OnErr result (LeadsInPart B.items (P.children program.now) (P.value program.now)
+        P.Value.combine P.Value.unit (view_of tables.old) (event.Batch place) (view_of tables.new)) }
     ensures fits { KeepAllFit B.fits (view_of tables.old) (view_of tables.new) }
     ensures graph { tables.new.lines ≡ tables.old.lines }
     ensures params { tables.new.params ≡ tables.old.params }

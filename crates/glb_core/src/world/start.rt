@@ -147,7 +147,8 @@ fn push_lines<P: Program, B: Bag<P>>(
 ) -> Result<(), NoMemory>
     requires { length bags.now ≡ lines.now.places }
     ensures { OnOk result (slots.new.items ≡ slots.old.items ++ map
-        (λ t. first_slot (has_items (get_or (map B.items bags.now) t [])) (has_number victim (outs_of lines.now t)))
+        (λ t. first_slot (has_items (get_or (map B.items bags.now) t []))
+        (has_number victim (outs_of lines.now t)))
         (range_with_len 0 lines.now.places)) }
 {
     for thief in 0..lines.places() {

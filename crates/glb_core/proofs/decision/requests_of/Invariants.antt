@@ -1,11 +1,10 @@
 use Rattle.std.proofs.Common.{◌≡◌, drop}
 use Rattle.std.specs.Option.{option_or}
-use Rattle.glb_core.specs.Decision.{first, is_unseen, is_pending, wants}
+use Rattle.glb_core.specs.Decision.{first, is_pending, wants}
 use Rattle.glb_core.proofs.decision.requests_of.Given as goal
 
 abbrev pub invariant-loop-edge : goal.invariant-loop-edge
 invariant-loop-edge l = record {
-  unseen : first is_unseen (drop l.edge-index l.ins) ≡ first is_unseen l.ins;
   wanting : option_or l.wanting (first wants (drop l.edge-index l.ins)) ≡ first wants l.ins;
   pending : option_or l.pending (first is_pending (drop l.edge-index l.ins)) ≡ first is_pending l.ins;
 }

@@ -5,4 +5,5 @@ pub returns-clause-done : goal.returns-clause-done
 returns-clause-done g c = λ children s bags events w P A n r. run_bounded children s bags P A events w n r
 
 pub returns-clause-nodes : goal.returns-clause-nodes
-returns-clause-nodes g c = λ children s bags most events w P A small n r. run_bounded_on children s bags P A most small events w n r
+returns-clause-nodes g c = λ children s bags most events w P A small n r.
+    run_bounded_on children s bags P A most small events w n r

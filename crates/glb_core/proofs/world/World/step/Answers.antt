@@ -8,4 +8,5 @@ pub returns-clause-fault : goal.returns-clause-fault
 returns-clause-fault g c = rw (← c.self.view_is) c.step.ensures.fault
 
 pub invariant_of-self : goal.invariant_of-self
-invariant_of-self g c = (c.step.ensures.sound, c.self.invariant.1 ∙ ap (λ l. l.places) (sym c.step.ensures.graph))
+invariant_of-self g c =
+    (c.step.ensures.sound, c.self.invariant.1 ∙ ap (λ l. l.places) (sym c.step.ensures.graph))

@@ -7,4 +7,7 @@ use Rattle.glb_core.proofs.world.conditions.all_armed.Given as goal
 
 abbrev pub invariant-loop-victim : goal.invariant-loop-victim
 invariant-loop-victim g l =
-    record { passed : (i : ℕ) → i < l.victim-index → IsHeld (get_or l.slots (slot_index l.places kind.Line l.place (get_or l.victims i 0)) kept.Idle) }
+    record {
+      passed : (i : ℕ) → i < l.victim-index
+          → IsHeld (get_or l.slots (slot_index l.places kind.Line l.place (get_or l.victims i 0)) kept.Idle);
+    }

@@ -6,4 +6,8 @@ use Rattle.glb_core.proofs.world.conditions.clear_of_lines.Given as goal
 
 abbrev pub invariant-loop-thief : goal.invariant-loop-thief
 invariant-loop-thief g l =
-    record { passed : (i : ℕ) → i < l.thief-index → get_or l.seat.marks.items (mark_index l.places kind.Line (get_or l.thieves i 0)) mark.Unseen ≡ mark.Clear }
+    record {
+      passed : (i : ℕ) → i < l.thief-index
+          → get_or l.seat.marks.items (mark_index l.places kind.Line (get_or l.thieves i 0)) mark.Unseen ≡
+          mark.Clear;
+    }

@@ -6,4 +6,7 @@ use Rattle.glb_core.proofs.world.conditions.clear_of_steals.Given as goal
 
 abbrev pub invariant-loop-thief : goal.invariant-loop-thief
 invariant-loop-thief g l =
-    record { passed : (t : ℕ) → t < l.thief → t ≢ l.place → get_or l.seat.marks.items (mark_index l.places kind.Steal t) mark.Unseen ≡ mark.Clear }
+    record {
+      passed : (t : ℕ) → t < l.thief → t ≢ l.place
+          → get_or l.seat.marks.items (mark_index l.places kind.Steal t) mark.Unseen ≡ mark.Clear;
+    }

@@ -10,7 +10,17 @@ pub returns-then-is_wanted-clause-found : goal.returns-then-is_wanted-clause-fou
 returns-then-is_wanted-clause-found g c = λ _. (
   c.loop-thief.thief-index,
   c.loop-thief-test.true,
-  at_index IsOpen c.args.slots.now c.slot_index.result (slot_index c.args.places kind.Line (get_or c.args.thieves.now c.loop-thief.thief-index 0) c.args.place) c.index-slots-slot_index.result kept.Idle c.index-slots-slot_index.is
-      (omega (arith, c.slot_index.ensures, c.requires.slots, slot_below c.args.places kind.Line _ c.args.place (c.requires.thieves c.loop-thief.thief-index 0 c.loop-thief-test.true) c.requires.place))
-      c.slot_index.ensures (⊎_elim (λ (e : c.index-slots-slot_index.result ≡ kept.Asked). subst IsOpen (sym e) tt) (λ x. subst IsOpen (sym x.1) tt) (c.is_wanted.ensures.0 c.if-is_wanted.true)),
+  at_index IsOpen c.args.slots.now c.slot_index.result
+      (slot_index c.args.places kind.Line (get_or c.args.thieves.now c.loop-thief.thief-index 0)
+      c.args.place) c.index-slots-slot_index.result kept.Idle c.index-slots-slot_index.is
+      (omega (
+        arith,
+        c.slot_index.ensures,
+        c.requires.slots,
+        slot_below c.args.places kind.Line _ c.args.place
+            (c.requires.thieves c.loop-thief.thief-index 0 c.loop-thief-test.true) c.requires.place,
+      ))
+      c.slot_index.ensures
+      (⊎_elim (λ (e : c.index-slots-slot_index.result ≡ kept.Asked). subst IsOpen (sym e) tt)
+      (λ x. subst IsOpen (sym x.1) tt) (c.is_wanted.ensures.0 c.if-is_wanted.true)),
 )

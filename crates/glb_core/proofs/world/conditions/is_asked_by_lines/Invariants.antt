@@ -7,4 +7,8 @@ use Rattle.glb_core.proofs.world.conditions.is_asked_by_lines.Given as goal
 
 abbrev pub invariant-loop-thief : goal.invariant-loop-thief
 invariant-loop-thief g l =
-    record { passed : (i : ℕ) → i < l.thief-index → IsOpen (get_or l.slots (slot_index l.places kind.Line (get_or l.thieves i 0) l.place) kept.Idle) → ⊥ }
+    record {
+      passed : (i : ℕ) → i < l.thief-index
+          → IsOpen (get_or l.slots (slot_index l.places kind.Line (get_or l.thieves i 0) l.place) kept.Idle)
+          → ⊥;
+    }

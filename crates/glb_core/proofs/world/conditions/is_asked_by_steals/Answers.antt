@@ -10,7 +10,15 @@ returns-then-is_asked-clause-found g c = λ _. (
   c.loop-thief.thief,
   c.loop-thief-test.true,
   c.if-thief-place.true,
-  at_index (λ z. z ≡ kept.Asked) c.args.slots.now c.slot_index.result (slot_index c.args.places kind.Steal c.loop-thief.thief c.args.place) c.index-slots-slot_index.result kept.Idle c.index-slots-slot_index.is
-      (omega (arith, c.slot_index.ensures, c.requires.slots, slot_below c.args.places kind.Steal c.loop-thief.thief c.args.place c.loop-thief-test.true c.requires.place))
+  at_index (λ z. z ≡ kept.Asked) c.args.slots.now c.slot_index.result
+      (slot_index c.args.places kind.Steal c.loop-thief.thief c.args.place)
+      c.index-slots-slot_index.result kept.Idle c.index-slots-slot_index.is
+      (omega (
+        arith,
+        c.slot_index.ensures,
+        c.requires.slots,
+        slot_below c.args.places kind.Steal c.loop-thief.thief c.args.place c.loop-thief-test.true
+            c.requires.place,
+      ))
       c.slot_index.ensures (c.is_asked.ensures.0 c.if-is_asked.true),
 )

@@ -6,4 +6,7 @@ use Rattle.glb_core.proofs.world.conditions.is_asked_by_steals.Given as goal
 
 abbrev pub invariant-loop-thief : goal.invariant-loop-thief
 invariant-loop-thief g l =
-    record { passed : (t : ℕ) → t < l.thief → t ≢ l.place → get_or l.slots (slot_index l.places kind.Steal t l.place) kept.Idle ≢ kept.Asked }
+    record {
+      passed : (t : ℕ) → t < l.thief → t ≢ l.place
+          → get_or l.slots (slot_index l.places kind.Steal t l.place) kept.Idle ≢ kept.Asked;
+    }

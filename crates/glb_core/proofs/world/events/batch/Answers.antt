@@ -19,15 +19,22 @@ returns-in-Ok-clause-worked g c =
     λ s w S.
     let batch : s.batch ≡ x.params.batch = ap (λ t. t.batch) S.shows.setup in
     let whole = c.in-Ok.ensures.whole in
-    let lead = works items (g.P.Program.children c.args.program.now) (g.P.Program.value c.args.program.now) g.P.Value.Monoid.combine g.P.Value.Monoid.unit s x w S
-    g.P.Value.Monoid.is_proper g.met.P.Value.Monoid.monoid_laws (g.met.P.Program.value_proper c.args.program.now)
-    c.args.place c.in-Ok.count r r2 c.work.new.value (set x.seats c.args.place r2) (x.total + c.in-Ok.count) c.requires.named (c.requires.enabled s w S) c.index_mut-seat.ensures.value
+    let lead = works items (g.P.Program.children c.args.program.now)
+    (g.P.Program.value c.args.program.now) g.P.Value.Monoid.combine g.P.Value.Monoid.unit s x w S
+    g.P.Value.Monoid.is_proper g.met.P.Value.Monoid.monoid_laws
+    (g.met.P.Program.value_proper c.args.program.now)
+    c.args.place c.in-Ok.count r r2 c.work.new.value (set x.seats c.args.place r2)
+    (x.total + c.in-Ok.count) c.requires.named (c.requires.enabled s w S) c.index_mut-seat.ensures.value
     c.in-Ok.ensures.done whole.0 (let m = whole.1 in omega arith)
-    (subst (λ m. AfterBatch items m c.in-Ok.count r r2) (c.tries_of-tries.ensures ∙ sym (ap (λ t. t.tries) S.shows.setup)) c.in-Ok.ensures.settled) refl refl in (
+    (subst (λ m. AfterBatch items m c.in-Ok.count r r2)
+    (c.tries_of-tries.ensures ∙ sym (ap (λ t. t.tries) S.shows.setup)) c.in-Ok.ensures.settled) refl
+    refl in (
       lead.0,
       ⊎_elim
-          (λ (less : c.in-Ok.count < x.params.batch). inr (lead.1 ∙ rest_none (items r2.bag) (whole.2 less)))
-          (λ (full : x.params.batch ≤ c.in-Ok.count). inl (let m = whole.1 in let n = lead.0.number in omega arith))
+          (λ (less : c.in-Ok.count < x.params.batch).
+          inr (lead.1 ∙ rest_none (items r2.bag) (whole.2 less)))
+          (λ (full : x.params.batch ≤ c.in-Ok.count).
+          inl (let m = whole.1 in let n = lead.0.number in omega arith))
           (cases_lt c.in-Ok.count x.params.batch),
     )
 
@@ -42,45 +49,60 @@ returns-in-Err-clause-cut g c =
     (λ (none : d < 1).
     let zero_done : d ≡ 0 = omega arith in
     inr (
-      value_stays (g.P.Program.children c.args.program.now) (g.P.Program.value c.args.program.now) g.P.Value.Monoid.combine (items r.bag) (items r2.bag) x.value c.work.new.value d c.in-Err.ensures.stopped zero_done,
-      λ s w S. stays_at items (g.P.Program.children c.args.program.now) (g.P.Program.value c.args.program.now) g.P.Value.Monoid.combine s x w S c.args.place d r r2 c.work.new.value (set x.seats c.args.place r2) (x.total + d)
-          c.requires.named c.index_mut-seat.ensures.value c.in-Err.ensures.stopped zero_done (c.in-Err.ensures.cut.2 zero_done) refl refl,
+      value_stays (g.P.Program.children c.args.program.now) (g.P.Program.value c.args.program.now)
+          g.P.Value.Monoid.combine (items r.bag) (items r2.bag) x.value c.work.new.value d
+          c.in-Err.ensures.stopped zero_done,
+      λ s w S. stays_at items (g.P.Program.children c.args.program.now)
+          (g.P.Program.value c.args.program.now) g.P.Value.Monoid.combine s x w S c.args.place d r r2
+          c.work.new.value (set x.seats c.args.place r2) (x.total + d)
+          c.requires.named c.index_mut-seat.ensures.value c.in-Err.ensures.stopped zero_done
+          (c.in-Err.ensures.cut.2 zero_done) refl refl,
     ))
     (λ (some : 1 ≤ d). inl (
       d,
       λ s w S.
           let batch : s.batch ≡ x.params.batch = ap (λ t. t.batch) S.shows.setup in
           let less = c.in-Err.ensures.cut.0 in
-          (works items (g.P.Program.children c.args.program.now) (g.P.Program.value c.args.program.now) g.P.Value.Monoid.combine g.P.Value.Monoid.unit s x w S
-          g.P.Value.Monoid.is_proper g.met.P.Value.Monoid.monoid_laws (g.met.P.Program.value_proper c.args.program.now)
-          c.args.place d r r2 c.work.new.value (set x.seats c.args.place r2) (x.total + d) c.requires.named (c.requires.enabled s w S) c.index_mut-seat.ensures.value
+          (works items (g.P.Program.children c.args.program.now) (g.P.Program.value c.args.program.now)
+          g.P.Value.Monoid.combine g.P.Value.Monoid.unit s x w S
+          g.P.Value.Monoid.is_proper g.met.P.Value.Monoid.monoid_laws
+          (g.met.P.Program.value_proper c.args.program.now)
+          c.args.place d r r2 c.work.new.value (set x.seats c.args.place r2) (x.total + d)
+          c.requires.named (c.requires.enabled s w S) c.index_mut-seat.ensures.value
           c.in-Err.ensures.stopped some (omega arith)
-          (subst (λ m. AfterBatch items m d r r2) (c.tries_of-tries.ensures ∙ sym (ap (λ t. t.tries) S.shows.setup)) (c.in-Err.ensures.cut.1 some)) refl refl).0,
+          (subst (λ m. AfterBatch items m d r r2)
+          (c.tries_of-tries.ensures ∙ sym (ap (λ t. t.tries) S.shows.setup))
+          (c.in-Err.ensures.cut.1 some)) refl refl).0,
     ))
     (cases_lt d 1)
 
 pub overflow_add-tables : goal.overflow_add-tables
-overflow_add-tables g c = let l = c.requires.sound.2.shows.limits.batch.1 in let m = c.in-Ok.ensures.whole.1 in let t = c.requires.total in omega arith
+overflow_add-tables g c = let l = c.requires.sound.2.shows.limits.batch.1 in
+    let m = c.in-Ok.ensures.whole.1 in let t = c.requires.total in omega arith
 
 pub overflow_add-tables-in-Err : goal.overflow_add-tables-in-Err
-overflow_add-tables-in-Err g c = let l = c.requires.sound.2.shows.limits.batch.1 in let m = c.in-Err.ensures.cut.0 in let t = c.requires.total in omega arith
+overflow_add-tables-in-Err g c = let l = c.requires.sound.2.shows.limits.batch.1 in
+    let m = c.in-Err.ensures.cut.0 in let t = c.requires.total in omega arith
 
 pub work-requires-clause-working : goal.work-requires-clause-working
 work-requires-clause-working g c =
     let k = c.requires.sound in
     let x = view_of c.args.tables.now in
-    let R = seat_shown g.B.Bag.items k.0 x k.1 k.2 c.args.place c.args.place c.index_mut-seat.result.now refl c.requires.named c.index_mut-seat.ensures.value in
+    let R = seat_shown g.B.Bag.items k.0 x k.1 k.2 c.args.place c.args.place c.index_mut-seat.result.now
+    refl c.requires.named c.index_mut-seat.ensures.value in
     R.same_phase ∙ (c.requires.enabled k.0 k.1 k.2).0
 
 pub work-requires-clause-items : goal.work-requires-clause-items
 work-requires-clause-items g c =
     let k = c.requires.sound in
     let x = view_of c.args.tables.now in
-    let R = seat_shown g.B.Bag.items k.0 x k.1 k.2 c.args.place c.args.place c.index_mut-seat.result.now refl c.requires.named c.index_mut-seat.ensures.value in
+    let R = seat_shown g.B.Bag.items k.0 x k.1 k.2 c.args.place c.args.place c.index_mut-seat.result.now
+    refl c.requires.named c.index_mut-seat.ensures.value in
     let n = places_are g.B.Bag.items k.0 x k.1 k.2.shows in
     let l : c.args.place < k.0.places = let i = c.requires.named in omega arith in
     let a = k.1.place c.args.place in
-    let fits = subst (λ y. PhaseFits y a.credit (length a.bag)) (c.requires.enabled k.0 k.1 k.2).0 (k.2.lawful.inner c.args.place l).fits in
+    let fits = subst (λ y. PhaseFits y a.credit (length a.bag)) (c.requires.enabled k.0 k.1 k.2).0
+    (k.2.lawful.inner c.args.place l).fits in
     let some = fits.0 in
     omega (arith, size_of R)
 
@@ -92,17 +114,21 @@ work-requires-clause-fits g c =
     let k = c.requires.sound in
     let x = view_of c.args.tables.now in
     let r = c.index_mut-seat.result.now in
-    let l : c.args.place < length x.seats = let a = k.2.shows.seats in let i = c.requires.named in omega arith in
-    subst (λ y. g.B.Bag.fits y.bag c.args.program.now) (sym c.index_mut-seat.ensures.value) (c.requires.fits.seats c.args.place r l)
+    let l : c.args.place < length x.seats = let a = k.2.shows.seats in let i = c.requires.named
+    in omega arith in
+    subst (λ y. g.B.Bag.fits y.bag c.args.program.now) (sym c.index_mut-seat.ensures.value)
+    (c.requires.fits.seats c.args.place r l)
 
 pub returns-in-Ok-clause-fits : goal.returns-in-Ok-clause-fits
 returns-in-Ok-clause-fits g c =
     let x = view_of c.args.tables.now in
     let r = c.index_mut-seat.result.now in
     let fits = g.B.Bag.fits in
-    let l : c.args.place < length x.seats = let a = c.requires.sound.2.shows.seats in let b = c.requires.named in omega arith in
+    let l : c.args.place < length x.seats = let a = c.requires.sound.2.shows.seats in
+    let b = c.requires.named in omega arith in
     record {
-      kept = λ p A. fits_seat fits p x c.args.place c.work.new.seat x.live x.stop (x.total + c.in-Ok.count) c.work.new.value A
+      kept = λ p A. fits_seat fits p x c.args.place c.work.new.seat x.live x.stop
+          (x.total + c.in-Ok.count) c.work.new.value A
           (c.work.ensures.fits.kept p (bag_at fits p x c.args.place r A l c.index_mut-seat.ensures.value));
     }
 
@@ -111,8 +137,10 @@ returns-in-Err-clause-fits g c =
     let x = view_of c.args.tables.now in
     let r = c.index_mut-seat.result.now in
     let fits = g.B.Bag.fits in
-    let l : c.args.place < length x.seats = let a = c.requires.sound.2.shows.seats in let b = c.requires.named in omega arith in
+    let l : c.args.place < length x.seats = let a = c.requires.sound.2.shows.seats in
+    let b = c.requires.named in omega arith in
     record {
-      kept = λ p A. fits_seat fits p x c.args.place c.work.new.seat x.live x.stop (x.total + c.in-Err.stopped.done) c.work.new.value A
+      kept = λ p A. fits_seat fits p x c.args.place c.work.new.seat x.live x.stop
+          (x.total + c.in-Err.stopped.done) c.work.new.value A
           (c.work.ensures.fits.kept p (bag_at fits p x c.args.place r A l c.index_mut-seat.ensures.value));
     }

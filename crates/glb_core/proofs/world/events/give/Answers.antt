@@ -21,9 +21,12 @@ returns-clause-given g c =
     let j = c.slot_index-at.result in
     let hj = c.slot_index-at.ensures ∙ ap (λ m. slot_index m c.args.kind c.args.thief c.args.place) n in
     on_ok_weaker c.give_part.result (λ G s w S.
-    let l = gives items (g.P.Program.children c.args.program.now) (g.P.Program.value c.args.program.now) g.P.Value.Monoid.combine g.P.Value.Monoid.unit s x w S
-    c.args.place c.args.thief c.args.kind r r2 z2 j c.mark_index.result (set x.seats c.args.place r2) (set x.slots j z2)
-    c.requires.named (c.requires.enabled s w S) c.index_mut-seat.ensures.value (c.mark_index.ensures ∙ ap (λ m. mark_index m c.args.kind c.args.thief) n) hj G refl refl in
+    let l = gives items (g.P.Program.children c.args.program.now) (g.P.Program.value c.args.program.now)
+    g.P.Value.Monoid.combine g.P.Value.Monoid.unit s x w S
+    c.args.place c.args.thief c.args.kind r r2 z2 j c.mark_index.result (set x.seats c.args.place r2)
+    (set x.slots j z2)
+    c.requires.named (c.requires.enabled s w S) c.index_mut-seat.ensures.value
+    (c.mark_index.ensures ∙ ap (λ m. mark_index m c.args.kind c.args.thief) n) hj G refl refl in
     (l, tt)) c.give_part.ensures.given
 
 pub returns-clause-refused : goal.returns-clause-refused
@@ -40,17 +43,30 @@ returns-clause-refused g c =
     on_err_3 c.give_part.result (λ a b d. (
       refl,
       λ s w S.
-          kept_world items s x w S c.args.place j c.args.kind c.args.thief c.args.place r2 z2 (set x.seats c.args.place r2) (set x.slots j z2) x.total x.value refl
+          kept_world items s x w S c.args.place j c.args.kind c.args.thief c.args.place r2 z2
+          (set x.seats c.args.place r2) (set x.slots j z2) x.total x.value refl
           c.requires.named.0 c.requires.named.1 c.requires.named.2 hj refl refl
-          (reordered items x.params.seed x.cube.places c.args.place r r2 (w.place c.args.place) (seat_shown items s x w S c.args.place c.args.place r refl c.requires.named.0 c.index_mut-seat.ensures.value) a (same b))
-          (ap (edge_in items) d ∙ slot_shown items s x w S c.args.kind c.args.thief c.args.place j z hj c.requires.named.1 c.requires.named.2 c.index_mut-slot.ensures.value),
+          (reordered items x.params.seed x.cube.places c.args.place r r2 (w.place c.args.place)
+          (seat_shown items s x w S c.args.place c.args.place r refl c.requires.named.0
+          c.index_mut-seat.ensures.value) a (same b))
+          (ap (edge_in items) d
+          ∙ slot_shown items s x w S c.args.kind c.args.thief c.args.place j z hj c.requires.named.1
+          c.requires.named.2 c.index_mut-slot.ensures.value),
     ))
     c.give_part.ensures.seat_stays c.give_part.ensures.bag_stays c.give_part.ensures.slot_stays
 
 pub index_mut-slot-requires : goal.index_mut-slot-requires
 index_mut-slot-requires g c =
     let n = c.places-places.ensures.places in
-    omega (arith, c.requires.sound.2.shows.slots, c.args.tables.now.slots.ok.0, c.slot_index-at.ensures ∙ ap (λ m. slot_index m c.args.kind c.args.thief c.args.place) n, slot_below c.args.tables.now.lines.places c.args.kind c.args.thief c.args.place c.requires.named.1 c.requires.named.2)
+    omega (
+      arith,
+      c.requires.sound.2.shows.slots,
+      c.args.tables.now.slots.ok.0,
+      c.slot_index-at.ensures
+          ∙ ap (λ m. slot_index m c.args.kind c.args.thief c.args.place) n,
+      slot_below c.args.tables.now.lines.places c.args.kind c.args.thief c.args.place c.requires.named.1
+          c.requires.named.2,
+    )
 
 pub give_part-requires-clause-two : goal.give_part-requires-clause-two
 give_part-requires-clause-two g c =
@@ -60,7 +76,8 @@ give_part-requires-clause-two g c =
     let S = k.2 in
     let x = view_of c.args.tables.now in
     let e = c.requires.enabled s w S in
-    let R = seat_shown g.B.Bag.items s x w S c.args.place c.args.place c.index_mut-seat.result.now refl c.requires.named.0 c.index_mut-seat.ensures.value in
+    let R = seat_shown g.B.Bag.items s x w S c.args.place c.args.place c.index_mut-seat.result.now refl
+    c.requires.named.0 c.index_mut-seat.ensures.value in
     let m = places_are g.B.Bag.items s x w S.shows in
     let l : c.args.place < s.places = let i = c.requires.named.0 in omega arith in
     let two = (S.lawful.can_give c.args.place l e.0 e.1).0 in
@@ -71,8 +88,16 @@ give_part-requires-clause-at g c =
     let k = c.requires.sound in
     let x = view_of c.args.tables.now in
     let r = c.index_mut-seat.result.now in
-    let R = seat_shown g.B.Bag.items k.0 x k.1 k.2 c.args.place c.args.place r refl c.requires.named.0 c.index_mut-seat.ensures.value in
-    omega (arith, R.many, r.marks.ok.0, c.mark_index.ensures ∙ ap (λ m. mark_index m c.args.kind c.args.thief) c.places-places.ensures.places, mark_below c.args.tables.now.lines.places c.args.kind c.args.thief c.requires.named.1)
+    let R = seat_shown g.B.Bag.items k.0 x k.1 k.2 c.args.place c.args.place r refl c.requires.named.0
+    c.index_mut-seat.ensures.value in
+    omega (
+      arith,
+      R.many,
+      r.marks.ok.0,
+      c.mark_index.ensures
+          ∙ ap (λ m. mark_index m c.args.kind c.args.thief) c.places-places.ensures.places,
+      mark_below c.args.tables.now.lines.places c.args.kind c.args.thief c.requires.named.1,
+    )
 
 pub returns-clause-fits : goal.returns-clause-fits
 returns-clause-fits g c =
@@ -83,9 +108,20 @@ returns-clause-fits g c =
     let fits = g.B.Bag.fits in
     let S = c.requires.sound.2.shows in
     let l : c.args.place < length x.seats = let a = S.seats in let b = c.requires.named.0 in omega arith in
-    let m : j < length x.slots = let a = S.slots in omega (arith, c.slot_index-at.ensures ∙ ap (λ m. slot_index m c.args.kind c.args.thief c.args.place) c.places-places.ensures.places, slot_below x.cube.places c.args.kind c.args.thief c.args.place c.requires.named.1 c.requires.named.2) in
+    let m : j < length x.slots = let a = S.slots
+    in omega (
+      arith,
+      c.slot_index-at.ensures
+          ∙ ap (λ m. slot_index m c.args.kind c.args.thief c.args.place) c.places-places.ensures.places,
+      slot_below x.cube.places c.args.kind c.args.thief c.args.place c.requires.named.1
+          c.requires.named.2,
+    ) in
     record {
-      kept = λ p A. fits_set fits p x c.args.place j c.give_part.new.seat c.give_part.new.slot x.live x.stop x.total x.value A
-          (c.give_part.ensures.fits.kept p (bag_at fits p x c.args.place r A l c.index_mut-seat.ensures.value))
-          (c.give_part.ensures.slot_fits p (bag_at fits p x c.args.place r A l c.index_mut-seat.ensures.value) (part_at fits p x j z A m c.index_mut-slot.ensures.value));
+      kept = λ p A. fits_set fits p x c.args.place j c.give_part.new.seat c.give_part.new.slot x.live
+          x.stop x.total x.value A
+          (c.give_part.ensures.fits.kept p
+          (bag_at fits p x c.args.place r A l c.index_mut-seat.ensures.value))
+          (c.give_part.ensures.slot_fits p
+          (bag_at fits p x c.args.place r A l c.index_mut-seat.ensures.value)
+          (part_at fits p x j z A m c.index_mut-slot.ensures.value));
     }

@@ -20,16 +20,27 @@ returns-clause-seen g c = λ s w S.
     let outs = c.args.seen.now.outs.items in
     let told : c.see_ins.new.ins ≡ map (in_seen r x.slots x.cube.places p) ins =
     c.see_ins.ensures ∙ ap (λ m. map (in_seen r c.as_slice-slots.result.now m p) c.deref_mut.result.now) n
-    ∙ ap (λ z. map (in_seen r z x.cube.places p) c.deref_mut.result.now) sl ∙ ap (map (in_seen r x.slots x.cube.places p)) c.deref_mut.ensures.value in
+    ∙ ap (λ z. map (in_seen r z x.cube.places p) c.deref_mut.result.now) sl
+    ∙ ap (map (in_seen r x.slots x.cube.places p)) c.deref_mut.ensures.value in
     let told_out : c.see_outs.new.outs ≡ map (out_seen x.slots x.cube.places p) outs =
     c.see_outs.ensures ∙ ap (λ m. map (out_seen c.as_slice-slots.result.now m p) c.deref_mut-2.result.now) n
-    ∙ ap (λ z. map (out_seen z x.cube.places p) c.deref_mut-2.result.now) sl ∙ ap (map (out_seen x.slots x.cube.places p)) c.deref_mut-2.ensures.value in
-    let kept_ins = with_items_is c.args.seen.now.ins c.see_ins.new.ins (ap length told ∙ length-map ins (in_seen r x.slots x.cube.places p) ∙ sym c.args.seen.now.ins.ok.0) in
-    let kept_outs = with_items_is c.args.seen.now.outs c.see_outs.new.outs (ap length told_out ∙ length-map outs (out_seen x.slots x.cube.places p) ∙ sym c.args.seen.now.outs.ok.0) in
-    let R = seat_shown g.B.Bag.items s x w S p p r refl c.requires.place (c.index-seats-place.is ∙ ap (λ xs. get_or xs p r) c.as_slice-seats.ensures.value) in
-    let e1 = kept_ins ∙ told ∙ ins_told g.B.Bag.items s x w S p c.requires.place r R ins c.requires.made.ins in
-    let e2 = kept_outs ∙ told_out ∙ outs_told g.B.Bag.items s x w S p c.requires.place r R outs c.requires.made.outs in
-    let e3 = c.see_waited-seen.ensures ∙ ap (λ m. waited_seen c.as_slice-slots.result.now m p r.phase) n ∙ ap (λ z. waited_seen z x.cube.places p r.phase) sl ∙ waited_told g.B.Bag.items s x w S p c.requires.place r R in
+    ∙ ap (λ z. map (out_seen z x.cube.places p) c.deref_mut-2.result.now) sl
+    ∙ ap (map (out_seen x.slots x.cube.places p)) c.deref_mut-2.ensures.value in
+    let kept_ins = with_items_is c.args.seen.now.ins c.see_ins.new.ins
+    (ap length told ∙ length-map ins (in_seen r x.slots x.cube.places p)
+    ∙ sym c.args.seen.now.ins.ok.0) in
+    let kept_outs = with_items_is c.args.seen.now.outs c.see_outs.new.outs
+    (ap length told_out ∙ length-map outs (out_seen x.slots x.cube.places p)
+    ∙ sym c.args.seen.now.outs.ok.0) in
+    let R = seat_shown g.B.Bag.items s x w S p p r refl c.requires.place
+    (c.index-seats-place.is ∙ ap (λ xs. get_or xs p r) c.as_slice-seats.ensures.value) in
+    let e1 = kept_ins ∙ told
+    ∙ ins_told g.B.Bag.items s x w S p c.requires.place r R ins c.requires.made.ins in
+    let e2 = kept_outs ∙ told_out
+    ∙ outs_told g.B.Bag.items s x w S p c.requires.place r R outs c.requires.made.outs in
+    let e3 = c.see_waited-seen.ensures ∙ ap (λ m. waited_seen c.as_slice-slots.result.now m p r.phase) n
+    ∙ ap (λ z. waited_seen z x.cube.places p r.phase) sl
+    ∙ waited_told g.B.Bag.items s x w S p c.requires.place r R in
     let e4 = ap (λ l. l == 0) S.shows.live in
     let e5 = S.shows.stop in
     λ i. record { ins = e1 i; outs = e2 i; waited = e3 i; ended = e4 i; stop = e5 i }
@@ -45,21 +56,30 @@ returns-clause-made g c =
     let outs = c.args.seen.now.outs.items in
     let told : c.see_ins.new.ins ≡ map (in_seen r x.slots x.cube.places p) ins =
     c.see_ins.ensures ∙ ap (λ m. map (in_seen r c.as_slice-slots.result.now m p) c.deref_mut.result.now) n
-    ∙ ap (λ z. map (in_seen r z x.cube.places p) c.deref_mut.result.now) sl ∙ ap (map (in_seen r x.slots x.cube.places p)) c.deref_mut.ensures.value in
+    ∙ ap (λ z. map (in_seen r z x.cube.places p) c.deref_mut.result.now) sl
+    ∙ ap (map (in_seen r x.slots x.cube.places p)) c.deref_mut.ensures.value in
     let told_out : c.see_outs.new.outs ≡ map (out_seen x.slots x.cube.places p) outs =
     c.see_outs.ensures ∙ ap (λ m. map (out_seen c.as_slice-slots.result.now m p) c.deref_mut-2.result.now) n
-    ∙ ap (λ z. map (out_seen z x.cube.places p) c.deref_mut-2.result.now) sl ∙ ap (map (out_seen x.slots x.cube.places p)) c.deref_mut-2.ensures.value in
-    let kept_ins = with_items_is c.args.seen.now.ins c.see_ins.new.ins (ap length told ∙ length-map ins (in_seen r x.slots x.cube.places p) ∙ sym c.args.seen.now.ins.ok.0) in
-    let kept_outs = with_items_is c.args.seen.now.outs c.see_outs.new.outs (ap length told_out ∙ length-map outs (out_seen x.slots x.cube.places p) ∙ sym c.args.seen.now.outs.ok.0) in
+    ∙ ap (λ z. map (out_seen z x.cube.places p) c.deref_mut-2.result.now) sl
+    ∙ ap (map (out_seen x.slots x.cube.places p)) c.deref_mut-2.ensures.value in
+    let kept_ins = with_items_is c.args.seen.now.ins c.see_ins.new.ins
+    (ap length told ∙ length-map ins (in_seen r x.slots x.cube.places p)
+    ∙ sym c.args.seen.now.ins.ok.0) in
+    let kept_outs = with_items_is c.args.seen.now.outs c.see_outs.new.outs
+    (ap length told_out ∙ length-map outs (out_seen x.slots x.cube.places p)
+    ∙ sym c.args.seen.now.outs.ok.0) in
     record {
-      ins = ap (map (λ (y : InEdge). name_of y.kind y.thief p)) (kept_ins ∙ told) ∙ ins_named r x.slots x.cube.places p ins ∙ c.requires.made.ins;
-      outs = ap (map (λ (y : OutEdge). y.victim)) (kept_outs ∙ told_out) ∙ outs_named x.slots x.cube.places p outs ∙ c.requires.made.outs;
+      ins = ap (map (λ (y : InEdge). name_of y.kind y.thief p)) (kept_ins ∙ told)
+          ∙ ins_named r x.slots x.cube.places p ins ∙ c.requires.made.ins;
+      outs = ap (map (λ (y : OutEdge). y.victim)) (kept_outs ∙ told_out)
+          ∙ outs_named x.slots x.cube.places p outs ∙ c.requires.made.outs;
     }
 
 pub see_ins-requires-clause-thieves : goal.see_ins-requires-clause-thieves
 see_ins-requires-clause-thieves g c =
     subst (λ m. AllThieves m c.deref_mut.result.now) (sym c.places-places.ensures.places)
-    (subst (AllThieves c.args.tables.now.lines.places) (sym c.deref_mut.ensures.value) (thieves_near c.args.tables.now.lines c.args.place c.args.seen.now.ins.items c.requires.made.ins))
+    (subst (AllThieves c.args.tables.now.lines.places) (sym c.deref_mut.ensures.value)
+    (thieves_near c.args.tables.now.lines c.args.place c.args.seen.now.ins.items c.requires.made.ins))
 
 pub see_ins-requires-clause-marks : goal.see_ins-requires-clause-marks
 see_ins-requires-clause-marks g c =
@@ -69,13 +89,15 @@ see_ins-requires-clause-marks g c =
     let n = c.places-places.ensures.places in
     let sl = c.as_slice-slots.ensures.value in
     let k = c.requires.sound in
-    let R = seat_shown g.B.Bag.items k.0 x k.1 k.2 p p r refl c.requires.place (c.index-seats-place.is ∙ ap (λ xs. get_or xs p r) c.as_slice-seats.ensures.value) in
+    let R = seat_shown g.B.Bag.items k.0 x k.1 k.2 p p r refl c.requires.place
+    (c.index-seats-place.is ∙ ap (λ xs. get_or xs p r) c.as_slice-seats.ensures.value) in
     omega (arith, R.many, r.marks.ok.0)
 
 pub see_outs-requires-clause-victims : goal.see_outs-requires-clause-victims
 see_outs-requires-clause-victims g c =
     subst (λ m. AllVictims m c.deref_mut-2.result.now) (sym c.places-places.ensures.places)
-    (subst (AllVictims c.args.tables.now.lines.places) (sym c.deref_mut-2.ensures.value) (victims_near c.args.tables.now.lines c.args.place c.args.seen.now.outs.items c.requires.made.outs))
+    (subst (AllVictims c.args.tables.now.lines.places) (sym c.deref_mut-2.ensures.value)
+    (victims_near c.args.tables.now.lines c.args.place c.args.seen.now.outs.items c.requires.made.outs))
 
 pub see_waited-seen-requires-clause-near : goal.see_waited-seen-requires-clause-near
 see_waited-seen-requires-clause-near g c = λ v k e.
@@ -85,6 +107,7 @@ see_waited-seen-requires-clause-near g c = λ v k e.
     let n = c.places-places.ensures.places in
     let sl = c.as_slice-slots.ensures.value in
     let q = c.requires.sound in
-    let R = seat_shown g.B.Bag.items q.0 x q.1 q.2 p p r refl c.requires.place (c.index-seats-place.is ∙ ap (λ xs. get_or xs p r) c.as_slice-seats.ensures.value) in
+    let R = seat_shown g.B.Bag.items q.0 x q.1 q.2 p p r refl c.requires.place
+    (c.index-seats-place.is ∙ ap (λ xs. get_or xs p r) c.as_slice-seats.ensures.value) in
     let l = near_shown g.B.Bag.items q.0 x q.1 q.2 p c.requires.place r R v k e in
     omega arith

@@ -10,11 +10,20 @@ returns g c = λ s w S.
     let x = view_of c.args.tables.now in
     let p = c.args.place in
     let r = c.index-seats-place.result in
-    let R = seat_shown g.B.Bag.items s x w S p p r refl c.requires.place (c.index-seats-place.is ∙ ap (λ xs. get_or xs p r) c.as_slice-seats.ensures.value) in
+    let R = seat_shown g.B.Bag.items s x w S p p r refl c.requires.place
+    (c.index-seats-place.is ∙ ap (λ xs. get_or xs p r) c.as_slice-seats.ensures.value) in
     let a = w.place p in
     let phase = R.same_phase in
     let credit = R.same_credit in
     let tries = R.tries in
-    let victim = R.victim ∙ ap (λ n. drawn x.params.seed n p a.count.asks) (sym (places_are g.B.Bag.items s x w S.shows)) in
+    let victim = R.victim
+    ∙ ap (λ n. drawn x.params.seed n p a.count.asks) (sym (places_are g.B.Bag.items s x w S.shows)) in
     let size = c.len.ensures ∙ ap (λ n. min n (2 ^ 64 - 1)) (size_of R) in
-    λ i. record { place = p; phase = phase i; credit = credit i; tries = tries i; victim = victim i; size = size i }
+    λ i. record {
+      place = p;
+      phase = phase i;
+      credit = credit i;
+      tries = tries i;
+      victim = victim i;
+      size = size i;
+    }

@@ -5,11 +5,16 @@ use Rattle.glb_core.proofs.world.sight.tell_counters.Goals as goal
 
 pub loop-place-preserved : goal.loop-place-preserved
 loop-place-preserved g c = record {
-  told = pointwise_more (λ y. y.counters) c.args.seats.now c.loop-place.counters _ c.loop-place.place (c.loop-place.place + 1) _ refl
-      (let a = c.loop-place.auto.counters in let l = c.loop-place-test.true in let r = c.requires in omega arith) refl
-      (λ e. ap (λ y. y.counters) (get_or-any c.args.seats.now c.loop-place.place c.index-seats-place.result e c.loop-place-test.true)) c.loop-place.invariant.told;
+  told = pointwise_more (λ y. y.counters) c.args.seats.now c.loop-place.counters _ c.loop-place.place
+      (c.loop-place.place + 1) _ refl
+      (let a = c.loop-place.auto.counters in let l = c.loop-place-test.true in let r = c.requires
+      in omega arith) refl
+      (λ e. ap (λ y. y.counters)
+      (get_or-any c.args.seats.now c.loop-place.place c.index-seats-place.result e
+      c.loop-place-test.true)) c.loop-place.invariant.told;
 }
 
 pub returns : goal.returns
-returns g c = map_pointwise (λ y. y.counters) c.args.seats.now c.loop-place.counters (c.loop-place.auto.counters ∙ c.requires)
+returns g c = map_pointwise (λ y. y.counters) c.args.seats.now c.loop-place.counters
+    (c.loop-place.auto.counters ∙ c.requires)
     (λ i d e l. c.loop-place.invariant.told i d e (let m = c.loop-place-test.false in omega arith))

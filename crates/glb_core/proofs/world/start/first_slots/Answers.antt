@@ -5,11 +5,24 @@ use Rattle.glb_core.proofs.StartFacts.{rows_more}
 use Rattle.glb_core.proofs.world.start.first_slots.Goals as goal
 
 pub loop-victim-init : goal.loop-victim-init
-loop-victim-init g c = record { made = record { number = ap length c.new-slots.ensures.items ∙ omega arith; edge = λ k t v l m. absurd (omega arith); plain = λ j d l. absurd (let e = ap length c.new-slots.ensures.items in omega arith) } }
+loop-victim-init g c =
+    record {
+      made = record {
+        number = ap length c.new-slots.ensures.items
+            ∙ omega arith;
+        edge = λ k t v l m. absurd (omega arith);
+        plain = λ j d l.
+            absurd (let e = ap length c.new-slots.ensures.items in omega arith);
+      };
+    }
 
 pub loop-victim-preserved : goal.loop-victim-preserved
 loop-victim-preserved g c = record {
-  made = rows_more c.args.lines.now (λ p. has_items (get_or (map g.B.Bag.items c.args.bags.now) p [])) c.args.lines.now.places c.loop-victim.victim (c.loop-victim.victim + 1)
-      c.loop-victim.slots.items c.push_steals.new.slots.items c.push_lines.new.slots.items c.loop-victim.invariant.made refl
-      (c.in_ok-push_steals.ensures ∙ ap (λ n. c.loop-victim.slots.items ++ replicate n kept.Idle) c.places.ensures.places) c.in_ok-push_lines.ensures;
+  made = rows_more c.args.lines.now (λ p. has_items (get_or (map g.B.Bag.items c.args.bags.now) p []))
+      c.args.lines.now.places c.loop-victim.victim (c.loop-victim.victim + 1)
+      c.loop-victim.slots.items c.push_steals.new.slots.items c.push_lines.new.slots.items
+      c.loop-victim.invariant.made refl
+      (c.in_ok-push_steals.ensures
+      ∙ ap (λ n. c.loop-victim.slots.items ++ replicate n kept.Idle) c.places.ensures.places)
+      c.in_ok-push_lines.ensures;
 }

@@ -14,7 +14,8 @@ returns-clause-tables g c =
       cube = record {
         some = let a = limits.places.0 in omega arith;
         base = let a = limits.base.0 in omega arith;
-        dimension = subst (λ n. IsDimension n l.base l.dimension) (sym p) (subst (λ m. IsDimension q.places m l.dimension) (sym b) e.dimension);
+        dimension = subst (λ n. IsDimension n l.base l.dimension) (sym p)
+            (subst (λ m. IsDimension q.places m l.dimension) (sym b) e.dimension);
       };
       places = p;
       base = b;

@@ -13,7 +13,16 @@ pub loop-thief-preserved : goal.loop-thief-preserved
 loop-thief-preserved g c = record {
   made = c.in_ok-push.ensures.items ∙ ap (λ x. x ++ c.slot_of_line.result ∷ []) c.loop-thief.invariant.made
       ∙ append_assoc c.args.slots.now.items _ (c.slot_of_line.result ∷ [])
-      ∙ ap (λ y. c.args.slots.now.items ++ (map (λ t. first_slot (has_items (get_or (map g.B.Bag.items c.args.bags.now) t [])) (has_number c.args.victim (outs_of c.args.lines.now t))) (range_with_len 0 c.loop-thief.thief) ++ y ∷ []))
-      (c.slot_of_line.ensures ∙ ap (λ a. first_slot a c.is_line.result) c.is_awake-awake.ensures ∙ ap (first_slot (has_items (get_or (map g.B.Bag.items c.args.bags.now) c.loop-thief.thief []))) c.is_line.ensures)
-      ∙ ap (λ x. c.args.slots.now.items ++ x) (sym (map-range_with_len_more (λ t. first_slot (has_items (get_or (map g.B.Bag.items c.args.bags.now) t [])) (has_number c.args.victim (outs_of c.args.lines.now t))) 0 c.loop-thief.thief c.loop-thief.thief (omega arith)));
+      ∙ ap (λ y. c.args.slots.now.items
+      ++ (map (λ t. first_slot (has_items (get_or (map g.B.Bag.items c.args.bags.now) t []))
+      (has_number c.args.victim (outs_of c.args.lines.now t))) (range_with_len 0 c.loop-thief.thief)
+      ++ y ∷ []))
+      (c.slot_of_line.ensures ∙ ap (λ a. first_slot a c.is_line.result) c.is_awake-awake.ensures
+      ∙ ap (first_slot (has_items (get_or (map g.B.Bag.items c.args.bags.now) c.loop-thief.thief [])))
+      c.is_line.ensures)
+      ∙ ap (λ x. c.args.slots.now.items ++ x)
+      (sym (map-range_with_len_more
+      (λ t. first_slot (has_items (get_or (map g.B.Bag.items c.args.bags.now) t []))
+      (has_number c.args.victim (outs_of c.args.lines.now t))) 0 c.loop-thief.thief c.loop-thief.thief
+      (omega arith)));
 }

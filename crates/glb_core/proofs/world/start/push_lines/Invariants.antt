@@ -7,4 +7,8 @@ use Rattle.glb_core.proofs.world.start.push_lines.Given as goal
 
 abbrev pub invariant-loop-thief : goal.invariant-loop-thief
 invariant-loop-thief g l =
-    record { made : l.slots.items ≡ l.fn.slots.items ++ map (λ t. first_slot (has_items (get_or (map g.B.Bag.items l.bags) t [])) (has_number l.victim (outs_of l.lines t))) (range_with_len 0 l.thief) }
+    record {
+      made : l.slots.items ≡ l.fn.slots.items
+          ++ map (λ t. first_slot (has_items (get_or (map g.B.Bag.items l.bags) t []))
+          (has_number l.victim (outs_of l.lines t))) (range_with_len 0 l.thief);
+    }

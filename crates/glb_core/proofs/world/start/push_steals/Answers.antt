@@ -9,5 +9,6 @@ loop-thief-init g c = record { made = sym (append-nil c.args.slots.now.items) }
 pub loop-thief-preserved : goal.loop-thief-preserved
 loop-thief-preserved g c = record {
   made = c.in_ok-push.ensures.items ∙ ap (λ x. x ++ kept.Idle ∷ []) c.loop-thief.invariant.made
-      ∙ append_assoc c.args.slots.now.items _ (kept.Idle ∷ []) ∙ ap (λ x. c.args.slots.now.items ++ x) (replicate_more c.loop-thief._thief kept.Idle);
+      ∙ append_assoc c.args.slots.now.items _ (kept.Idle ∷ [])
+      ∙ ap (λ x. c.args.slots.now.items ++ x) (replicate_more c.loop-thief._thief kept.Idle);
 }

@@ -4,4 +4,8 @@ use Rattle.glb_core.specs.declared.kinds.Mark.TheVariants as mark
 use Rattle.glb_core.proofs.world.start.unseen_marks.Goals as goal
 
 pub loop-i-preserved : goal.loop-i-preserved
-loop-i-preserved c = record { made = c.in_ok-push.ensures.items ∙ ap (λ x. x ++ mark.Unseen ∷ []) c.loop-i.invariant.made ∙ replicate_more c.loop-i._i mark.Unseen }
+loop-i-preserved c =
+    record {
+      made = c.in_ok-push.ensures.items ∙ ap (λ x. x ++ mark.Unseen ∷ []) c.loop-i.invariant.made
+          ∙ replicate_more c.loop-i._i mark.Unseen;
+    }
