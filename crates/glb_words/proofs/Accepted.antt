@@ -47,12 +47,14 @@ Fresh given left = Each (λ t. is_given t.name given ≡ false) left
 
 -- clap's walk stands where the reading does
 pub data Stands (c : List ClapRule) : Stage → Given → Walk → Type 0 where
-  at_words : (left : List Slot) (given : Given) (position : ℕ) (rows : List Row) (pending : Option (Text × List Text))
+  at_words : (left : List Slot) (given : Given) (position : ℕ) (rows : List Row)
+      (pending : Option (Text × List Text))
       → settle_passes c false (held rows pending) ≡ true → AreRows given (settled_rows c pending rows)
       → Numbered c position left → Fresh given left
       → Stands c (words left) given (between position rows pending idle)
   at_value : (s : Slot) (given : Given) (position : ℕ) (rows : List Row)
-      → arg_by_id c s.name ≡ Some (option_built s.name) → is_plain_kind s.kind ≡ true → is_given s.name given ≡ false → AreRows given rows
+      → arg_by_id c s.name ≡ Some (option_built s.name) → is_plain_kind s.kind ≡ true
+      → is_given s.name given ≡ false → AreRows given rows
       → Stands c (value s) given (between position rows (Some (s.name, [])) (option s.name))
 
 pub record Ends (c : List ClapRule) (w : Walk) (given : Given) : Type 0 where
@@ -75,42 +77,60 @@ pub kept : (f : Option WordKind) (s t : State) → unless f s ≡ Ok t → (f �
 kept None s t h = (refl, cc h)
 kept (Some kind) s t h = absurd (cc h)
 
-pub given_more : (name other text : Text) (given : Given) → is_given other given ≡ false → bytes_eq name other ≡ false → is_given other (given ++ (name, text) ∷ []) ≡ false
+pub given_more : (name other text : Text) (given : Given) → is_given other given ≡ false
+    → bytes_eq name other ≡ false → is_given other (given ++ (name, text) ∷ []) ≡ false
 given_more name other text [] h e = simp e
-given_more name other text (g ∷ given) h e = go (bytes_eq g.0 other) refl h (given_more name other text given)
+given_more name other text (g ∷ given) h e =
+    go (bytes_eq g.0 other) refl h (given_more name other text given)
   where
-    go : (b : Bool) → bytes_eq g.0 other ≡ b → (b || is_given other given) ≡ false → (is_given other given ≡ false → bytes_eq name other ≡ false → is_given other (given ++ (name, text) ∷ []) ≡ false) → is_given other (g ∷ given ++ (name, text) ∷ []) ≡ false
+    go : (b : Bool) → bytes_eq g.0 other ≡ b → (b || is_given other given) ≡ false
+        → (is_given other given ≡ false → bytes_eq name other ≡ false
+        → is_given other (given ++ (name, text) ∷ []) ≡ false)
+        → is_given other (g ∷ given ++ (name, text) ∷ []) ≡ false
     go true first h later = absurd (cc h)
     go false first h later = let rest = later h e in simp (first, rest)
 
-pub fresh_more : (name text : Text) (given : Given) (left : List Slot) → Fresh given left → Each (λ t. bytes_eq name t.name ≡ false) left → Fresh (given ++ (name, text) ∷ []) left
+pub fresh_more : (name text : Text) (given : Given) (left : List Slot) → Fresh given left
+    → Each (λ t. bytes_eq name t.name ≡ false) left → Fresh (given ++ (name, text) ∷ []) left
 fresh_more name text given [] h e = none
-fresh_more name text given (t ∷ left) (more _ _ p ps) (more _ _ q qs) = more t left (given_more name t.name text given p q) (fresh_more name text given left ps qs)
+fresh_more name text given (t ∷ left) (more _ _ p ps) (more _ _ q qs) =
+    more t left (given_more name t.name text given p q) (fresh_more name text given left ps qs)
 
-module _ (top : Shape) (plain : top.args_override_self ≡ false) (rule : Rule) (calm : Bool) (served : Each (Served top.rules) rule.options) where
+module _ (top : Shape) (plain : top.args_override_self ≡ false) (rule : Rule) (calm : Bool)
+    (served : Each (Served top.rules) rule.options) where
   abbrev Steps : Stage → Given → Walk → Text → Type 0
   Steps stage given w word = (t : State) → next rule calm stage given word ≡ Ok t
       → (turn_passes top [] w word ≡ true) × Stands top.rules t.stage t.given (walked top.rules [] w word)
 
-  pub walks : ((stage : Stage) (given : Given) (w : Walk) (word : Text) → Stands top.rules stage given w → Steps stage given w word)
-      → (rest : List Text) (at : ℕ) (s : State) (w : Walk) (given : Given) → Stands top.rules s.stage s.given w
+  pub walks : ((stage : Stage) (given : Given) (w : Walk) (word : Text) → Stands top.rules stage given w
+      → Steps stage given w word)
+      → (rest : List Text) (at : ℕ) (s : State) (w : Walk) (given : Given)
+      → Stands top.rules s.stage s.given w
       → read_from rule calm at s rest ≡ Ok given
       → (walk_passes top [] w rest ≡ true) × Ends top.rules (fold (walked top.rules []) w rest) given
   unfolding walk_passes read_from
   walks step [] at s w given stands h = (refl, ended s.stage s.given w stands h)
     where
-      ended : (stage : Stage) (before : Given) (w : Walk) → Stands top.rules stage before w → at_end at stage before ≡ Ok given → Ends top.rules w given
+      ended : (stage : Stage) (before : Given) (w : Walk) → Stands top.rules stage before w
+          → at_end at stage before ≡ Ok given → Ends top.rules w given
       ended _ _ _ (at_words [] before position rows pending passes are numbered fresh) h =
-          let same : before ≡ given = cc h in record { passes = passes; rows = rw (← same) are; stopped = refl }
-      ended _ _ _ (at_words (s ∷ left) before position rows pending passes are numbered fresh) h = absurd (cc h)
+          let same : before ≡ given = cc h
+          in record { passes = passes; rows = rw (← same) are; stopped = refl }
+      ended _ _ _ (at_words (s ∷ left) before position rows pending passes are numbered fresh) h =
+          absurd (cc h)
       ended _ _ _ (at_value s before position rows known fit fresh are) h = absurd (cc h)
   walks step (word ∷ rest) at s w given stands h =
-      go (next rule calm s.stage s.given word) refl h (λ t. walks step rest (at + 1) t (walked top.rules [] w word) given)
+      go (next rule calm s.stage s.given word) refl h
+      (λ t. walks step rest (at + 1) t (walked top.rules [] w word) given)
     where
-      go : (r : Result State WordKind) → next rule calm s.stage s.given word ≡ r → and_then at r (λ t. read_from rule calm (at + 1) t rest) ≡ Ok given
-          → ((t : State) → Stands top.rules t.stage t.given (walked top.rules [] w word) → read_from rule calm (at + 1) t rest ≡ Ok given
-          → (walk_passes top [] (walked top.rules [] w word) rest ≡ true) × Ends top.rules (fold (walked top.rules []) (walked top.rules [] w word) rest) given)
-          → (walk_passes top [] w (word ∷ rest) ≡ true) × Ends top.rules (fold (walked top.rules []) w (word ∷ rest)) given
+      go : (r : Result State WordKind) → next rule calm s.stage s.given word ≡ r
+          → and_then at r (λ t. read_from rule calm (at + 1) t rest) ≡ Ok given
+          → ((t : State) → Stands top.rules t.stage t.given (walked top.rules [] w word)
+          → read_from rule calm (at + 1) t rest ≡ Ok given
+          → (walk_passes top [] (walked top.rules [] w word) rest ≡ true)
+          × Ends top.rules (fold (walked top.rules []) (walked top.rules [] w word) rest) given)
+          → (walk_passes top [] w (word ∷ rest) ≡ true)
+          × Ends top.rules (fold (walked top.rules []) w (word ∷ rest)) given
       go (Err kind) e h later = absurd (cc h)
       go (Ok t) e h later =
           let one = step s.stage s.given w word stands t e in
@@ -120,41 +140,53 @@ module _ (top : Shape) (plain : top.args_override_self ≡ false) (rule : Rule) 
           (simp (turn, tail), others.1)
 
   -- a number
-  number_step : (s : Slot) (left : List Slot) (given : Given) (position : ℕ) (rows : List Row) (pending : Option (Text × List Text)) (word : Text)
-      → settle_passes top.rules false (held rows pending) ≡ true → AreRows given (settled_rows top.rules pending rows)
+  number_step : (s : Slot) (left : List Slot) (given : Given) (position : ℕ) (rows : List Row)
+      (pending : Option (Text × List Text)) (word : Text)
+      → settle_passes top.rules false (held rows pending) ≡ true
+      → AreRows given (settled_rows top.rules pending rows)
       → Numbered top.rules position (s ∷ left) → Fresh given (s ∷ left) → is_plain word ≡ true
       → (turn_passes top [] (between position rows pending idle) word ≡ true)
-      × Stands top.rules (words left) (given ++ (s.name, word) ∷ []) (walked top.rules [] (between position rows pending idle) word)
+      × Stands top.rules (words left) (given ++ (s.name, word) ∷ [])
+      (walked top.rules [] (between position rows pending idle) word)
   number_step s left given position rows pending [] passes are numbered fresh no_dash = absurd (cc no_dash)
   number_step s left given position rows pending (d ∷ ds) passes are numbered (more _ _ new fresh) no_dash =
       let dash : eqb d 45 ≡ false = not_true (eqb d 45) no_dash in
       let settled = settled_rows top.rules pending rows in
       let no_row : has_row s.name settled ≡ false = are_rows_has s.name given settled are ∙ new in
       let by_id = numbered.1 in
-      let then_rows : settled_rows top.rules (Some (s.name, (d ∷ ds) ∷ [])) settled ≡ settled ++ value_row (number_rule position s.name) (d ∷ ds) ∷ [] =
+      let then_rows : settled_rows top.rules (Some (s.name, (d ∷ ds) ∷ [])) settled ≡ settled
+      ++ value_row (number_rule position s.name) (d ∷ ds) ∷ [] =
       simp by_id (number_added s.name (d ∷ ds) position settled no_row) in
-      let now : AreRows (given ++ (s.name, d ∷ ds) ∷ []) (settled_rows top.rules (Some (s.name, (d ∷ ds) ∷ [])) settled) =
-      rw then_rows (are_rows_more given settled s.name (d ∷ ds) (value_row (number_rule position s.name) (d ∷ ds)) are refl refl) in (
+      let now : AreRows (given ++ (s.name, d ∷ ds) ∷ [])
+      (settled_rows top.rules (Some (s.name, (d ∷ ds) ∷ [])) settled) =
+      rw then_rows (are_rows_more given settled s.name (d ∷ ds)
+      (value_row (number_rule position s.name) (d ∷ ds)) are refl refl) in (
         number_passes top plain d ds s.name position rows pending dash numbered.0 passes,
         rw (number_walked top plain d ds s.name position rows pending dash numbered.0)
-            (at_words left (given ++ (s.name, d ∷ ds) ∷ []) (min (position + 1) usize_max) settled (Some (s.name, (d ∷ ds) ∷ []))
+            (at_words left (given ++ (s.name, d ∷ ds) ∷ []) (min (position + 1) usize_max) settled
+            (Some (s.name, (d ∷ ds) ∷ []))
             (number_settles top plain s.name (d ∷ ds) position settled by_id no_row) now
             numbered.4 (fresh_more s.name (d ∷ ds) given left fresh numbered.3)),
       )
 
   -- the value of an option, as a word of its own
   value_step : (s : Slot) (given : Given) (position : ℕ) (rows : List Row) (word : Text)
-      → arg_by_id top.rules s.name ≡ Some (option_built s.name) → is_given s.name given ≡ false → AreRows given rows → is_plain word ≡ true
+      → arg_by_id top.rules s.name ≡ Some (option_built s.name) → is_given s.name given ≡ false
+      → AreRows given rows → is_plain word ≡ true
       → (turn_passes top [] (between position rows (Some (s.name, [])) (option s.name)) word ≡ true)
-      × Stands top.rules (words []) (given ++ (s.name, word) ∷ []) (walked top.rules [] (between position rows (Some (s.name, [])) (option s.name)) word)
+      × Stands top.rules (words []) (given ++ (s.name, word) ∷ [])
+      (walked top.rules [] (between position rows (Some (s.name, [])) (option s.name)) word)
   value_step s given position rows [] known new are no_dash = absurd (cc no_dash)
   value_step s given position rows (d ∷ ds) known new are no_dash =
       let dash : eqb d 45 ≡ false = not_true (eqb d 45) no_dash in
       let no_row : has_row s.name rows ≡ false = are_rows_has s.name given rows are ∙ new in
-      let then_rows : settled_rows top.rules (Some (s.name, (d ∷ ds) ∷ [])) rows ≡ rows ++ value_row (option_built s.name) (d ∷ ds) ∷ [] =
+      let then_rows : settled_rows top.rules (Some (s.name, (d ∷ ds) ∷ [])) rows ≡ rows
+      ++ value_row (option_built s.name) (d ∷ ds) ∷ [] =
       simp known (option_added s.name (d ∷ ds) rows no_row) in
-      let now : AreRows (given ++ (s.name, d ∷ ds) ∷ []) (settled_rows top.rules (Some (s.name, (d ∷ ds) ∷ [])) rows) =
-      rw then_rows (are_rows_more given rows s.name (d ∷ ds) (value_row (option_built s.name) (d ∷ ds)) are refl refl) in (
+      let now : AreRows (given ++ (s.name, d ∷ ds) ∷ [])
+      (settled_rows top.rules (Some (s.name, (d ∷ ds) ∷ [])) rows) =
+      rw then_rows (are_rows_more given rows s.name (d ∷ ds) (value_row (option_built s.name) (d ∷ ds))
+      are refl refl) in (
         value_passes top plain s.name position rows d ds dash known,
         rw (value_walked top plain s.name position rows d ds dash known)
             (at_words [] (given ++ (s.name, d ∷ ds) ∷ []) position rows (Some (s.name, (d ∷ ds) ∷ []))
@@ -162,21 +194,28 @@ module _ (top : Shape) (plain : top.args_override_self ≡ false) (rule : Rule) 
       )
 
   -- the three forms of an option: its name alone, with its value, and a flag
-  alone_step : (s : Slot) (given : Given) (position : ℕ) (rows : List Row) (pending : Option (Text × List Text)) (word : Text)
-      → settle_passes top.rules false (held rows pending) ≡ true → AreRows given (settled_rows top.rules pending rows)
+  alone_step : (s : Slot) (given : Given) (position : ℕ) (rows : List Row)
+      (pending : Option (Text × List Text)) (word : Text)
+      → settle_passes top.rules false (held rows pending) ≡ true
+      → AreRows given (settled_rows top.rules pending rows)
       → is_plain_kind s.kind ≡ true → is_given s.name given ≡ false → has_equals word ≡ false
-      → arg_by_long top.rules s.name ≡ Some (option_built s.name) → arg_by_id top.rules s.name ≡ Some (option_built s.name)
+      → arg_by_long top.rules s.name ≡ Some (option_built s.name)
+      → arg_by_id top.rules s.name ≡ Some (option_built s.name)
       → is_name s.name ≡ true → NamesOption s.name word
       → (turn_passes top [] (between position rows pending idle) word ≡ true)
       × Stands top.rules (value s) given (walked top.rules [] (between position rows pending idle) word)
   alone_step s given position rows pending word passes are fit new equals long id name names =
       let is_word : word ≡ 45 ∷ 45 ∷ s.name = alone s.name word equals names in
       let step = on_name s.name name long in
-      rw is_word (step.0, rw step.1 (at_value s given position (settled_rows top.rules pending rows) id fit new are))
+      rw is_word (
+        step.0,
+        rw step.1 (at_value s given position (settled_rows top.rules pending rows) id fit new are),
+      )
     where
       on_name : (n : Text) → is_name n ≡ true → arg_by_long top.rules n ≡ Some (option_built n)
           → (turn_passes top [] (between position rows pending idle) (45 ∷ 45 ∷ n) ≡ true)
-          × (walked top.rules [] (between position rows pending idle) (45 ∷ 45 ∷ n) ≡ between position (settled_rows top.rules pending rows) (Some (n, [])) (option n))
+          × (walked top.rules [] (between position rows pending idle) (45 ∷ 45 ∷ n) ≡ between position
+          (settled_rows top.rules pending rows) (Some (n, [])) (option n))
       on_name [] h long = absurd (cc h)
       on_name (n ∷ ns) h long =
           let no_equals : has_equals (n ∷ ns) ≡ false = not_true (has_equals (n ∷ ns)) h in
@@ -185,25 +224,37 @@ module _ (top : Shape) (plain : top.args_override_self ≡ false) (rule : Rule) 
             option_walked top plain n ns position rows pending before no_equals long,
           )
 
-  flag_step : (s : Slot) (given : Given) (position : ℕ) (rows : List Row) (pending : Option (Text × List Text)) (word : Text)
-      → settle_passes top.rules false (held rows pending) ≡ true → AreRows given (settled_rows top.rules pending rows)
+  flag_step : (s : Slot) (given : Given) (position : ℕ) (rows : List Row)
+      (pending : Option (Text × List Text)) (word : Text)
+      → settle_passes top.rules false (held rows pending) ≡ true
+      → AreRows given (settled_rows top.rules pending rows)
       → is_given s.name given ≡ false → has_equals word ≡ false
       → arg_by_long top.rules s.name ≡ Some (flag_built s.name)
       → is_name s.name ≡ true → NamesOption s.name word
       → (turn_passes top [] (between position rows pending idle) word ≡ true)
-      × Stands top.rules (words []) (given ++ (s.name, codes "true") ∷ []) (walked top.rules [] (between position rows pending idle) word)
+      × Stands top.rules (words []) (given ++ (s.name, codes "true") ∷ [])
+      (walked top.rules [] (between position rows pending idle) word)
   flag_step s given position rows pending word passes are new equals long name names =
       let settled = settled_rows top.rules pending rows in
       let no_row : has_row s.name settled ≡ false = are_rows_has s.name given settled are ∙ new in
       let is_word : word ≡ 45 ∷ 45 ∷ s.name = alone s.name word equals names in
       let step = on_name s.name name long no_row in
-      let now : AreRows (given ++ (s.name, codes "true") ∷ []) (settled_rows top.rules None (used (flag_built s.name) [] settled)) =
-      rw (flag_added s.name settled no_row) (are_rows_more given settled s.name (codes "true") (value_row (flag_built s.name) (codes "true")) are refl refl) in
-      rw is_word (step.0, rw step.1 (at_words [] (given ++ (s.name, codes "true") ∷ []) position (used (flag_built s.name) [] settled) None refl now tt none))
+      let now : AreRows (given ++ (s.name, codes "true") ∷ [])
+      (settled_rows top.rules None (used (flag_built s.name) [] settled)) =
+      rw (flag_added s.name settled no_row)
+      (are_rows_more given settled s.name (codes "true")
+      (value_row (flag_built s.name) (codes "true")) are refl refl) in
+      rw is_word (
+        step.0,
+        rw step.1 (at_words [] (given ++ (s.name, codes "true") ∷ []) position
+            (used (flag_built s.name) [] settled) None refl now tt none),
+      )
     where
-      on_name : (n : Text) → is_name n ≡ true → arg_by_long top.rules n ≡ Some (flag_built n) → has_row n (settled_rows top.rules pending rows) ≡ false
+      on_name : (n : Text) → is_name n ≡ true → arg_by_long top.rules n ≡ Some (flag_built n)
+          → has_row n (settled_rows top.rules pending rows) ≡ false
           → (turn_passes top [] (between position rows pending idle) (45 ∷ 45 ∷ n) ≡ true)
-          × (walked top.rules [] (between position rows pending idle) (45 ∷ 45 ∷ n) ≡ between position (used (flag_built n) [] (settled_rows top.rules pending rows)) None idle)
+          × (walked top.rules [] (between position rows pending idle) (45 ∷ 45 ∷ n) ≡ between position
+          (used (flag_built n) [] (settled_rows top.rules pending rows)) None idle)
       on_name [] h long fresh = absurd (cc h)
       on_name (n ∷ ns) h long fresh =
           let no_equals : has_equals (n ∷ ns) ≡ false = not_true (has_equals (n ∷ ns)) h in
@@ -212,29 +263,41 @@ module _ (top : Shape) (plain : top.args_override_self ≡ false) (rule : Rule) 
             flag_walked top plain n ns position rows pending before no_equals long,
           )
 
-  joined_step : (s : Slot) (given : Given) (position : ℕ) (rows : List Row) (pending : Option (Text × List Text)) (word : Text)
-      → settle_passes top.rules false (held rows pending) ≡ true → AreRows given (settled_rows top.rules pending rows)
+  joined_step : (s : Slot) (given : Given) (position : ℕ) (rows : List Row)
+      (pending : Option (Text × List Text)) (word : Text)
+      → settle_passes top.rules false (held rows pending) ≡ true
+      → AreRows given (settled_rows top.rules pending rows)
       → is_given s.name given ≡ false → has_equals word ≡ true
       → arg_by_long top.rules s.name ≡ Some (option_built s.name)
       → is_name s.name ≡ true → NamesOption s.name word
       → (turn_passes top [] (between position rows pending idle) word ≡ true)
-      × Stands top.rules (words []) (given ++ (s.name, after_equals word) ∷ []) (walked top.rules [] (between position rows pending idle) word)
+      × Stands top.rules (words []) (given ++ (s.name, after_equals word) ∷ [])
+      (walked top.rules [] (between position rows pending idle) word)
   joined_step s given position rows pending word passes are new equals long name names =
       let settled = settled_rows top.rules pending rows in
       let no_row : has_row s.name settled ≡ false = are_rows_has s.name given settled are ∙ new in
       let text = after_equals word in
-      let step = on_rest s.name name names.rest names.before (ap has_equals (sym names.is) ∙ equals) long no_row in
-      let same : after_equals names.rest ≡ text = sym (after_dashes names.rest) ∙ ap after_equals (sym names.is) in
-      let now : AreRows (given ++ (s.name, text) ∷ []) (settled_rows top.rules None (used (option_built s.name) (text ∷ []) settled)) =
-      rw (option_added s.name text settled no_row) (are_rows_more given settled s.name text (value_row (option_built s.name) text) are refl refl) in (
+      let step = on_rest s.name name names.rest names.before (ap has_equals (sym names.is) ∙ equals) long
+      no_row in
+      let same : after_equals names.rest ≡ text = sym (after_dashes names.rest)
+      ∙ ap after_equals (sym names.is) in
+      let now : AreRows (given ++ (s.name, text) ∷ [])
+      (settled_rows top.rules None (used (option_built s.name) (text ∷ []) settled)) =
+      rw (option_added s.name text settled no_row)
+      (are_rows_more given settled s.name text (value_row (option_built s.name) text) are refl refl)
+      in (
         ap (λ w. turn_passes top [] (between position rows pending idle) w) names.is ∙ step.0,
         rw (ap (λ w. walked top.rules [] (between position rows pending idle) w) names.is ∙ step.1, same)
-            (at_words [] (given ++ (s.name, text) ∷ []) position (used (option_built s.name) (text ∷ []) settled) None refl now tt none),
+            (at_words [] (given ++ (s.name, text) ∷ []) position
+            (used (option_built s.name) (text ∷ []) settled) None refl now tt none),
       )
     where
-      on_rest : (n : Text) → is_name n ≡ true → (rest : Text) → before_equals rest ≡ n → has_equals rest ≡ true → arg_by_long top.rules n ≡ Some (option_built n) → has_row n (settled_rows top.rules pending rows) ≡ false
+      on_rest : (n : Text) → is_name n ≡ true → (rest : Text) → before_equals rest ≡ n
+          → has_equals rest ≡ true → arg_by_long top.rules n ≡ Some (option_built n)
+          → has_row n (settled_rows top.rules pending rows) ≡ false
           → (turn_passes top [] (between position rows pending idle) (45 ∷ 45 ∷ rest) ≡ true)
-          × (walked top.rules [] (between position rows pending idle) (45 ∷ 45 ∷ rest) ≡ between position (used (option_built n) (after_equals rest ∷ []) (settled_rows top.rules pending rows)) None idle)
+          × (walked top.rules [] (between position rows pending idle) (45 ∷ 45 ∷ rest) ≡ between position
+          (used (option_built n) (after_equals rest ∷ []) (settled_rows top.rules pending rows)) None idle)
       on_rest n h [] before equals long fresh = absurd (cc equals)
       on_rest n h (r ∷ rest) before equals long fresh = (
         joined_passes top plain r rest n position rows pending before equals long passes fresh,
@@ -242,18 +305,26 @@ module _ (top : Shape) (plain : top.args_override_self ≡ false) (rule : Rule) 
       )
 
   -- an option that takes a value
-  valued : (s : Slot) (given : Given) (position : ℕ) (rows : List Row) (pending : Option (Text × List Text)) (word : Text) (t : State)
-      → settle_passes top.rules false (held rows pending) ≡ true → AreRows given (settled_rows top.rules pending rows)
+  valued : (s : Slot) (given : Given) (position : ℕ) (rows : List Row)
+      (pending : Option (Text × List Text)) (word : Text) (t : State)
+      → settle_passes top.rules false (held rows pending) ≡ true
+      → AreRows given (settled_rows top.rules pending rows)
       → is_plain_kind s.kind ≡ true
-      → arg_by_long top.rules s.name ≡ Some (option_built s.name) → arg_by_id top.rules s.name ≡ Some (option_built s.name)
+      → arg_by_long top.rules s.name ≡ Some (option_built s.name)
+      → arg_by_id top.rules s.name ≡ Some (option_built s.name)
       → is_name s.name ≡ true → NamesOption s.name word
-      → (if is_given s.name given then Err Repeated else (if has_equals word then keep calm s (after_equals word) given [] else Ok (record { stage = value s; given = given }))) ≡ Ok t
+      → (if is_given s.name given then Err Repeated else
+      (if has_equals word then keep calm s (after_equals word) given [] else Ok
+      (record { stage = value s; given = given }))) ≡ Ok t
       → (turn_passes top [] (between position rows pending idle) word ≡ true)
       × Stands top.rules t.stage t.given (walked top.rules [] (between position rows pending idle) word)
-  valued s given position rows pending word t passes are fit long id name names h = go (is_given s.name given) (has_equals word) refl refl h
+  valued s given position rows pending word t passes are fit long id name names h =
+      go (is_given s.name given) (has_equals word) refl refl h
     where
       go : (a b : Bool) → is_given s.name given ≡ a → has_equals word ≡ b
-          → (if a then Err Repeated else (if b then keep calm s (after_equals word) given [] else Ok (record { stage = value s; given = given }))) ≡ Ok t
+          → (if a then Err Repeated else
+          (if b then keep calm s (after_equals word) given [] else Ok
+          (record { stage = value s; given = given }))) ≡ Ok t
           → (turn_passes top [] (between position rows pending idle) word ≡ true)
           × Stands top.rules t.stage t.given (walked top.rules [] (between position rows pending idle) word)
       go true b e f h = absurd (cc h)
@@ -264,17 +335,22 @@ module _ (top : Shape) (plain : top.args_override_self ≡ false) (rule : Rule) 
           let is : record { stage = value s; given = given } ≡ t = cc h in
           rw (← is) (alone_step s given position rows pending word passes are fit e f long id name names)
 
-  flagged : (s : Slot) (given : Given) (position : ℕ) (rows : List Row) (pending : Option (Text × List Text)) (word : Text) (t : State)
-      → settle_passes top.rules false (held rows pending) ≡ true → AreRows given (settled_rows top.rules pending rows)
+  flagged : (s : Slot) (given : Given) (position : ℕ) (rows : List Row)
+      (pending : Option (Text × List Text)) (word : Text) (t : State)
+      → settle_passes top.rules false (held rows pending) ≡ true
+      → AreRows given (settled_rows top.rules pending rows)
       → arg_by_long top.rules s.name ≡ Some (flag_built s.name)
       → is_name s.name ≡ true → NamesOption s.name word
-      → (if has_equals word then Err UnknownOption else (if is_given s.name given then Err Repeated else keep calm s (codes "true") given [])) ≡ Ok t
+      → (if has_equals word then Err UnknownOption else
+      (if is_given s.name given then Err Repeated else keep calm s (codes "true") given [])) ≡ Ok t
       → (turn_passes top [] (between position rows pending idle) word ≡ true)
       × Stands top.rules t.stage t.given (walked top.rules [] (between position rows pending idle) word)
-  flagged s given position rows pending word t passes are long name names h = go (has_equals word) (is_given s.name given) refl refl h
+  flagged s given position rows pending word t passes are long name names h =
+      go (has_equals word) (is_given s.name given) refl refl h
     where
       go : (a b : Bool) → has_equals word ≡ a → is_given s.name given ≡ b
-          → (if a then Err UnknownOption else (if b then Err Repeated else keep calm s (codes "true") given [])) ≡ Ok t
+          → (if a then Err UnknownOption else
+          (if b then Err Repeated else keep calm s (codes "true") given [])) ≡ Ok t
           → (turn_passes top [] (between position rows pending idle) word ≡ true)
           × Stands top.rules t.stage t.given (walked top.rules [] (between position rows pending idle) word)
       go true b e f h = absurd (cc h)
@@ -283,43 +359,55 @@ module _ (top : Shape) (plain : top.args_override_self ≡ false) (rule : Rule) 
           let is = kept (value_fault calm s.kind (codes "true")) _ t h in
           rw (← is.1) (flag_step s given position rows pending word passes are f e long name names)
 
-  by_kind : (name : Text) (kind : Kind) (given : Given) (position : ℕ) (rows : List Row) (pending : Option (Text × List Text)) (word : Text) (t : State)
-      → settle_passes top.rules false (held rows pending) ≡ true → AreRows given (settled_rows top.rules pending rows)
+  by_kind : (name : Text) (kind : Kind) (given : Given) (position : ℕ) (rows : List Row)
+      (pending : Option (Text × List Text)) (word : Text) (t : State)
+      → settle_passes top.rules false (held rows pending) ≡ true
+      → AreRows given (settled_rows top.rules pending rows)
       → Served top.rules (slot name kind) → NamesOption name word
       → after_option calm word given (Some (slot name kind)) ≡ Ok t
       → (turn_passes top [] (between position rows pending idle) word ≡ true)
       × Stands top.rules t.stage t.given (walked top.rules [] (between position rows pending idle) word)
   by_kind name (number least most) given position rows pending word t passes are has names h =
-      valued (slot name (number least most)) given position rows pending word t passes are refl has.long has.id has.name names h
+      valued (slot name (number least most)) given position rows pending word t passes are refl has.long
+      has.id has.name names h
   by_kind name (choice choices) given position rows pending word t passes are has names h =
-      valued (slot name (choice choices)) given position rows pending word t passes are has.fit has.long has.id has.name names h
+      valued (slot name (choice choices)) given position rows pending word t passes are has.fit has.long
+      has.id has.name names h
   by_kind name flag given position rows pending word t passes are has names h =
       flagged (slot name flag) given position rows pending word t passes are has.long has.name names h
 
   -- one word more
-  step : (stage : Stage) (given : Given) (w : Walk) (word : Text) → Stands top.rules stage given w → Steps stage given w word
+  step : (stage : Stage) (given : Given) (w : Walk) (word : Text) → Stands top.rules stage given w
+      → Steps stage given w word
   step _ _ _ word (at_words (s ∷ left) given position rows pending passes are numbered fresh) t h =
       let is = kept (value_fault calm s.kind word) _ t h in
-      rw (← is.1) (number_step s left given position rows pending word passes are numbered fresh (plain_value calm s.kind word numbered.2 is.0))
-  step _ _ _ word (at_words [] given position rows pending passes are numbered fresh) t h = go (option_named rule.options word) refl h
+      rw (← is.1) (number_step s left given position rows pending word passes are numbered fresh
+      (plain_value calm s.kind word numbered.2 is.0))
+  step _ _ _ word (at_words [] given position rows pending passes are numbered fresh) t h =
+      go (option_named rule.options word) refl h
     where
       go : (o : Option Slot) → option_named rule.options word ≡ o → after_option calm word given o ≡ Ok t
           → (turn_passes top [] (between position rows pending idle) word ≡ true)
           × Stands top.rules t.stage t.given (walked top.rules [] (between position rows pending idle) word)
       go None e h = absurd (cc h)
       go (Some s) e h =
-          let found = each_found (Served top.rules) (λ s. bytes_eq (45 ∷ 45 ∷ s.name) (before_equals word)) rule.options s served e in
-          by_kind s.name s.kind given position rows pending word t passes are found.0 (names_option s.name word found.1) h
+          let found = each_found (Served top.rules)
+          (λ s. bytes_eq (45 ∷ 45 ∷ s.name) (before_equals word)) rule.options s served e in
+          by_kind s.name s.kind given position rows pending word t passes are found.0
+          (names_option s.name word found.1) h
   step _ _ _ word (at_value s given position rows known fit new are) t h =
       let is = kept (value_fault calm s.kind word) _ t h in
-      rw (← is.1) (value_step s given position rows word known new are (plain_value calm s.kind word fit is.0))
+      rw (← is.1) (value_step s given position rows word known new are
+      (plain_value calm s.kind word fit is.0))
 
   -- the words of a job that are read without a fault are taken, and the walk ends with what was given
   pub accepted : (rest : List Text) (given : Given) → Numbered top.rules 1 rule.numbers
       → read_from rule calm 1 (start_of rule) rest ≡ Ok given
-      → (walk_passes top [] (walk_from nothing_held) rest ≡ true) × Ends top.rules (fold (walked top.rules []) (walk_from nothing_held) rest) given
+      → (walk_passes top [] (walk_from nothing_held) rest ≡ true)
+      × Ends top.rules (fold (walked top.rules []) (walk_from nothing_held) rest) given
   accepted rest given numbered h =
-      walks step rest 1 (start_of rule) (walk_from nothing_held) given (at_words rule.numbers [] 1 [] None refl tt numbered (all_fresh rule.numbers)) h
+      walks step rest 1 (start_of rule) (walk_from nothing_held) given
+      (at_words rule.numbers [] 1 [] None refl tt numbered (all_fresh rule.numbers)) h
     where
       all_fresh : (left : List Slot) → Fresh [] left
       all_fresh [] = none

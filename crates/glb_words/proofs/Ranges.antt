@@ -35,7 +35,8 @@ pub record Named (rule : Rule) : Type 0 where
 abbrev pub Checked : Rule → Bool → Given → Type 0
 Checked rule calm given = Each (λ g. value_fault calm (kind_named rule g.0) g.1 ≡ None) given
 
-pub each_more : {X : Type 0} (P : X → Type 0) (xs : List X) (y : X) → Each P xs → P y → Each P (xs ++ y ∷ [])
+pub each_more : {X : Type 0} (P : X → Type 0) (xs : List X) (y : X) → Each P xs → P y
+    → Each P (xs ++ y ∷ [])
 each_more P [] y h p = more y [] p none
 each_more P (x ∷ xs) y (more _ _ q qs) p = more x (xs ++ y ∷ []) q (each_more P xs y qs p)
 
@@ -45,18 +46,31 @@ module _ (rule : Rule) (calm : Bool) (named : Named rule) where
   Fair (words left) = Each (λ s. kind_named rule s.name ≡ s.kind) left
   Fair (value s) = kind_named rule s.name ≡ s.kind
 
-  keeps : (s : Slot) (text : Text) (given : Given) (left : List Slot) (t : State) → kind_named rule s.name ≡ s.kind → Checked rule calm given
-      → Each (λ s. kind_named rule s.name ≡ s.kind) left → keep calm s text given left ≡ Ok t → Fair t.stage × Checked rule calm t.given
+  keeps : (s : Slot) (text : Text) (given : Given) (left : List Slot) (t : State)
+      → kind_named rule s.name ≡ s.kind → Checked rule calm given
+      → Each (λ s. kind_named rule s.name ≡ s.kind) left → keep calm s text given left ≡ Ok t
+      → Fair t.stage × Checked rule calm t.given
   keeps s text given left t kind checked fair h =
       let is = kept (value_fault calm s.kind text) _ t h in
-      let good : value_fault calm (kind_named rule s.name) text ≡ None = ap (λ k. value_fault calm k text) kind ∙ is.0 in
-      rw (← is.1) (fair, each_more (λ g. value_fault calm (kind_named rule g.0) g.1 ≡ None) given (s.name, text) checked good)
+      let good : value_fault calm (kind_named rule s.name) text ≡ None =
+      ap (λ k. value_fault calm k text) kind ∙ is.0 in
+      rw (← is.1) (
+        fair,
+        each_more (λ g. value_fault calm (kind_named rule g.0) g.1 ≡ None) given
+            (s.name, text) checked good,
+      )
 
-  flag_text : (s : Slot) (given : Given) (word : Text) (t : State) → kind_named rule s.name ≡ s.kind → Checked rule calm given
+  flag_text : (s : Slot) (given : Given) (word : Text) (t : State) → kind_named rule s.name ≡ s.kind
+      → Checked rule calm given
       → after_option calm word given (Some s) ≡ Ok t → Fair t.stage × Checked rule calm t.given
   flag_text s given word t kind checked h = go (is_flag s.kind) (has_equals word) (is_given s.name given) h
     where
-      go : (a b c : Bool) → (if a && b then Err UnknownOption else (if c then Err Repeated else (if a then keep calm s (codes "true") given [] else (if b then keep calm s (after_equals word) given [] else Ok (record { stage = value s; given = given }))))) ≡ Ok t → Fair t.stage × Checked rule calm t.given
+      go : (a b c : Bool)
+          → (if a && b then Err UnknownOption else
+          (if c then Err Repeated else
+          (if a then keep calm s (codes "true") given [] else
+          (if b then keep calm s (after_equals word) given [] else Ok
+          (record { stage = value s; given = given }))))) ≡ Ok t → Fair t.stage × Checked rule calm t.given
       go true true c h = absurd (cc h)
       go true false true h = absurd (cc h)
       go false b true h = absurd (cc h)
@@ -66,28 +80,39 @@ module _ (rule : Rule) (calm : Bool) (named : Named rule) where
           let is : record { stage = value s; given = given } ≡ t = cc h in
           rw (← is) (kind, checked)
 
-  steps : (stage : Stage) (given : Given) (word : Text) (t : State) → Fair stage → Checked rule calm given → next rule calm stage given word ≡ Ok t → Fair t.stage × Checked rule calm t.given
-  steps (words (s ∷ left)) given word t (more _ _ kind fair) checked h = keeps s word given left t kind checked fair h
+  steps : (stage : Stage) (given : Given) (word : Text) (t : State) → Fair stage → Checked rule calm given
+      → next rule calm stage given word ≡ Ok t → Fair t.stage × Checked rule calm t.given
+  steps (words (s ∷ left)) given word t (more _ _ kind fair) checked h =
+      keeps s word given left t kind checked fair h
   steps (words []) given word t fair checked h = go (option_named rule.options word) refl h
     where
-      go : (o : Option Slot) → option_named rule.options word ≡ o → after_option calm word given o ≡ Ok t → Fair t.stage × Checked rule calm t.given
+      go : (o : Option Slot) → option_named rule.options word ≡ o → after_option calm word given o ≡ Ok t
+          → Fair t.stage × Checked rule calm t.given
       go None e h = absurd (cc h)
-      go (Some s) e h = flag_text s given word t (each_found (λ s. kind_named rule s.name ≡ s.kind) (λ s. bytes_eq (45 ∷ 45 ∷ s.name) (before_equals word)) rule.options s named.options e).0 checked h
+      go (Some s) e h = flag_text s given word t
+          (each_found (λ s. kind_named rule s.name ≡ s.kind)
+          (λ s. bytes_eq (45 ∷ 45 ∷ s.name) (before_equals word)) rule.options s named.options e).0
+          checked h
   steps (value s) given word t fair checked h = keeps s word given [] t fair checked none h
 
-  pub checked_from : (rest : List Text) (at : ℕ) (s : State) (given : Given) → Fair s.stage → Checked rule calm s.given → read_from rule calm at s rest ≡ Ok given → Checked rule calm given
+  pub checked_from : (rest : List Text) (at : ℕ) (s : State) (given : Given) → Fair s.stage
+      → Checked rule calm s.given → read_from rule calm at s rest ≡ Ok given → Checked rule calm given
   unfolding read_from
   checked_from [] at s given fair checked h = ended s.stage s.given checked h
     where
-      ended : (stage : Stage) (before : Given) → Checked rule calm before → at_end at stage before ≡ Ok given → Checked rule calm given
+      ended : (stage : Stage) (before : Given) → Checked rule calm before
+          → at_end at stage before ≡ Ok given → Checked rule calm given
       ended (words []) before checked h = let same : before ≡ given = cc h in rw (← same) checked
       ended (words (s ∷ left)) before checked h = absurd (cc h)
       ended (value s) before checked h = absurd (cc h)
   checked_from (word ∷ rest) at s given fair checked h =
       go (next rule calm s.stage s.given word) refl h (λ t. checked_from rest (at + 1) t given)
     where
-      go : (r : Result State WordKind) → next rule calm s.stage s.given word ≡ r → and_then at r (λ t. read_from rule calm (at + 1) t rest) ≡ Ok given
-          → ((t : State) → Fair t.stage → Checked rule calm t.given → read_from rule calm (at + 1) t rest ≡ Ok given → Checked rule calm given) → Checked rule calm given
+      go : (r : Result State WordKind) → next rule calm s.stage s.given word ≡ r
+          → and_then at r (λ t. read_from rule calm (at + 1) t rest) ≡ Ok given
+          → ((t : State) → Fair t.stage → Checked rule calm t.given
+          → read_from rule calm (at + 1) t rest ≡ Ok given → Checked rule calm given)
+          → Checked rule calm given
       go (Err kind) e h later = absurd (cc h)
       go (Ok t) e h later = let one = steps s.stage s.given word t fair checked e in later t one.0 one.1 h
 
@@ -110,33 +135,42 @@ dist_named = record {
 }
 
 -- a value that is found was checked
-pub checked_value : (rule : Rule) (calm : Bool) (name text : Text) (given : Given) → Checked rule calm given → given_value name given ≡ Some text → value_fault calm (kind_named rule name) text ≡ None
+pub checked_value : (rule : Rule) (calm : Bool) (name text : Text) (given : Given)
+    → Checked rule calm given → given_value name given ≡ Some text
+    → value_fault calm (kind_named rule name) text ≡ None
 checked_value rule calm name text given h e = go (find (λ g. bytes_eq g.0 name) given) refl e
   where
-    go : (o : Option (Text × Text)) → find (λ g. bytes_eq g.0 name) given ≡ o → option_map (λ g. g.1) o ≡ Some text → value_fault calm (kind_named rule name) text ≡ None
+    go : (o : Option (Text × Text)) → find (λ g. bytes_eq g.0 name) given ≡ o
+        → option_map (λ g. g.1) o ≡ Some text → value_fault calm (kind_named rule name) text ≡ None
     go None f e = absurd (cc e)
     go (Some g) f e =
-        let got = each_found (λ g. value_fault calm (kind_named rule g.0) g.1 ≡ None) (λ g. bytes_eq g.0 name) given g h f in
+        let got = each_found (λ g. value_fault calm (kind_named rule g.0) g.1 ≡ None)
+        (λ g. bytes_eq g.0 name) given g h f in
         let same : g.0 ≡ name = bytes_eq-same g.0 name got.1 in
         let is : g.1 ≡ text = cc e in
         rw (← same, ← is) got.0
 
 job_named : (word : Text) (rule : Rule) → rule_named word ≡ Some rule → Named rule
-job_named word rule h = (each_found Named (λ (r : Rule). bytes_eq r.name word) job_rules rule (more _ _ queens_named (more _ _ uts_named (more _ _ dist_named none))) h).0
+job_named word rule h =
+    (each_found Named (λ (r : Rule). bytes_eq r.name word) job_rules rule
+    (more _ _ queens_named (more _ _ uts_named (more _ _ dist_named none))) h).0
 
 -- all values of words that are read were checked
-pub checked : (calm : Bool) (words : List Text) (rule : Rule) (given : Given) → read_words calm words ≡ Ok (rule, given) → Checked rule calm given
+pub checked : (calm : Bool) (words : List Text) (rule : Rule) (given : Given)
+    → read_words calm words ≡ Ok (rule, given) → Checked rule calm given
 checked calm [] rule given h = absurd (cc h)
 checked calm (word ∷ rest) rule given h = go (rule_named word) refl h
   where
-    go : (o : Option Rule) → rule_named word ≡ o → read_job calm o rest ≡ Ok (rule, given) → Checked rule calm given
+    go : (o : Option Rule) → rule_named word ≡ o → read_job calm o rest ≡ Ok (rule, given)
+        → Checked rule calm given
     go None e h = absurd (cc h)
     go (Some r) e h =
         let inner = read_inner r (read_from r calm 1 (start_of r) rest) rule given h in
         let named = job_named word r e in
         rw (← inner.0) (checked_from r calm named rest 1 (start_of r) given named.numbers none inner.1)
 
-within : (calm : Bool) (least most : ℕ) (text : Text) → value_fault calm (number least most) text ≡ None → IsWithin least most (Some text)
+within : (calm : Bool) (least most : ℕ) (text : Text) → value_fault calm (number least most) text ≡ None
+    → IsWithin least most (Some text)
 within calm least most text h = go (is_number text) refl h
   where
     below : (a b : Bool) → (if a && b then None else Some OutOfRange) ≡ None → (a ≡ true) × (b ≡ true)
@@ -144,26 +178,36 @@ within calm least most text h = go (is_number text) refl h
     below true false h = absurd (cc h)
     below false b h = absurd (cc h)
 
-    go : (b : Bool) → is_number text ≡ b → (if b then (if nat_le least (number_of text) && nat_le (number_of text) most then None else Some OutOfRange) else Some NotNumber) ≡ None → IsWithin least most (Some text)
+    go : (b : Bool) → is_number text ≡ b
+        → (if b then (if nat_le least (number_of text) && nat_le (number_of text) most then None else Some
+        OutOfRange) else Some NotNumber) ≡ None → IsWithin least most (Some text)
     go false e h = absurd (cc h)
     go true e h =
         let both = below (nat_le least (number_of text)) (nat_le (number_of text) most) h in
         let digits = and_left (all_ascii_digits text) _ e in
         let lengths = and_right (all_ascii_digits text) _ e in
-        let some : nat_le 1 (length text) ≡ true = and_left (nat_le 1 (length text)) _ lengths in
-        (digits, leb→le 1 (length text) (rw some tt), leb→le least (number_of text) (rw both.0 tt), leb→le (number_of text) most (rw both.1 tt))
+        let some : nat_le 1 (length text) ≡ true = and_left (nat_le 1 (length text)) _ lengths in (
+          digits,
+          leb→le 1 (length text) (rw some tt),
+          leb→le least (number_of text) (rw both.0 tt),
+          leb→le (number_of text) most (rw both.1 tt),
+        )
 
 -- the value of a number's name is in its range
-pub given_within : (rule : Rule) (calm : Bool) (name : Text) (given : Given) (least most : ℕ) → Checked rule calm given → kind_named rule name ≡ number least most → IsWithin least most (given_value name given)
+pub given_within : (rule : Rule) (calm : Bool) (name : Text) (given : Given) (least most : ℕ)
+    → Checked rule calm given → kind_named rule name ≡ number least most
+    → IsWithin least most (given_value name given)
 given_within rule calm name given least most h kind = go (given_value name given) refl
   where
     go : (o : Option Text) → given_value name given ≡ o → IsWithin least most o
     go None e = tt
-    go (Some text) e = within calm least most text (subst (λ k. value_fault calm k text ≡ None) kind (checked_value rule calm name text given h e))
+    go (Some text) e = within calm least most text
+        (subst (λ k. value_fault calm k text ≡ None) kind (checked_value rule calm name text given h e))
 
 -- what holds of each built job holds of the job that the words name
 pub of_job : (P : Rule → Type 0) → Each P job_rules
-    → (calm : Bool) (words : List Text) (rule : Rule) (given : Given) → read_words calm words ≡ Ok (rule, given) → P rule
+    → (calm : Bool) (words : List Text) (rule : Rule) (given : Given)
+    → read_words calm words ≡ Ok (rule, given) → P rule
 of_job P all calm [] rule given h = absurd (cc h)
 of_job P all calm (word ∷ rest) rule given h = go (rule_named word) refl h
   where

@@ -35,28 +35,42 @@ pub record Tabled (rule : Rule) : Type 0 where
 all_tabled : Each Tabled job_rules
 all_tabled = search (rules, none, more)
 
-pub tabled : (calm : Bool) (words : List Text) (rule : Rule) (given : Given) → read_words calm words ≡ Ok (rule, given) → Tabled rule
+pub tabled : (calm : Bool) (words : List Text) (rule : Rule) (given : Given)
+    → read_words calm words ≡ Ok (rule, given) → Tabled rule
 tabled = of_job Tabled all_tabled
 
 -- the values agree with those that were given, but for flags
 abbrev pub Agrees : Rule → Given → (Text → Option Text) → Type 0
-Agrees rule given value = (name : Text) → list_any (λ f. bytes_eq f name) (flags_of rule.options) ≡ false → value name ≡ given_value name given
+Agrees rule given value = (name : Text) → list_any (λ f. bytes_eq f name) (flags_of rule.options) ≡ false
+    → value name ≡ given_value name given
 
 -- the values of flags agree too, where one that was not given is off
 abbrev pub FlagsAgree : Rule → Given → (Text → Option Text) → Type 0
-FlagsAgree rule given value = (name : Text) → list_any (λ f. bytes_eq f name) (flags_of rule.options) ≡ true → value name ≡ or_false (given_value name given)
+FlagsAgree rule given value = (name : Text)
+    → list_any (λ f. bytes_eq f name) (flags_of rule.options) ≡ true
+    → value name ≡ or_false (given_value name given)
 
 on_or_off : (o : Option Text) → is_on (or_false o) ≡ is_on o
 on_or_off None = refl
 on_or_off (Some text) = refl
 
-module _ (rule : Rule) (calm : Bool) (given : Given) (value : Text → Option Text) (agrees : Agrees rule given value) (flags : FlagsAgree rule given value) (check : Checked rule calm given) where
-  one_within : (name : Text) (least most : _) → IsNumber name least most rule → IsWithin least most (value name)
-  one_within name least most is = subst (IsWithin least most) (sym (agrees name is.no_flag)) (given_within rule calm name given least most check is.kind)
+module _ (rule : Rule) (calm : Bool) (given : Given) (value : Text → Option Text)
+    (agrees : Agrees rule given value) (flags : FlagsAgree rule given value)
+    (check : Checked rule calm given) where
+  one_within : (name : Text) (least most : _) → IsNumber name least most rule
+      → IsWithin least most (value name)
+  one_within name least most is =
+      subst (IsWithin least most) (sym (agrees name is.no_flag))
+      (given_within rule calm name given least most check is.kind)
 
   numbers_fit : (name : JobName) → NumbersTabled name rule → NumbersFit name value
   numbers_fit job_name.Queens is = one_within (codes "n") 1 16 is
-  numbers_fit job_name.Uts is = (one_within (codes "b0") 0 100000 is.0, one_within (codes "m") 0 16 is.1, one_within (codes "q") 0 2147483648 is.2, one_within (codes "root_seed") 0 4294967295 is.3)
+  numbers_fit job_name.Uts is = (
+    one_within (codes "b0") 0 100000 is.0,
+    one_within (codes "m") 0 16 is.1,
+    one_within (codes "q") 0 2147483648 is.2,
+    one_within (codes "root_seed") 0 4294967295 is.3,
+  )
   numbers_fit job_name.Dist is = tt
 
   pub values_fit : Tabled rule → ValuesFit rule.job value
@@ -70,11 +84,30 @@ module _ (rule : Rule) (calm : Bool) (given : Given) (value : Text → Option Te
     limit = one_within (codes "limit") 1 1099511627776 t.limit;
   }
 
-  job_agrees : (name : JobName) → NumbersTabled name rule → job_by name value ≡ job_by name (λ n. given_value n given)
+  job_agrees : (name : JobName) → NumbersTabled name rule
+      → job_by name value ≡ job_by name (λ n. given_value n given)
   job_agrees job_name.Queens is = rw (agrees (codes "n") is.no_flag) refl
-  job_agrees job_name.Uts is = rw (agrees (codes "b0") is.0.no_flag, agrees (codes "m") is.1.no_flag, agrees (codes "q") is.2.no_flag, agrees (codes "root_seed") is.3.no_flag) refl
+  job_agrees job_name.Uts is =
+      rw (
+        agrees (codes "b0") is.0.no_flag,
+        agrees (codes "m") is.1.no_flag,
+        agrees (codes "q") is.2.no_flag,
+        agrees (codes "root_seed") is.3.no_flag,
+      ) refl
   job_agrees job_name.Dist is = refl
 
-  pub settings_agree : Tabled rule → settings_by rule.job value ≡ settings_by rule.job (λ n. given_value n given)
+  pub settings_agree : Tabled rule
+      → settings_by rule.job value ≡ settings_by rule.job (λ n. given_value n given)
   settings_agree t =
-      rw (job_agrees rule.job t.numbers, agrees (codes "places") t.places.no_flag, agrees (codes "batch") t.batch.no_flag, agrees (codes "tries") t.tries.no_flag, agrees (codes "base") t.base.no_flag, agrees (codes "seed") t.seed.no_flag, agrees (codes "limit") t.limit.no_flag, flags (codes "stats") t.stats, on_or_off (given_value (codes "stats") given)) refl
+      rw (
+        job_agrees rule.job t.numbers,
+        agrees (codes "places") t.places.no_flag,
+        agrees (codes "batch") t.batch.no_flag,
+        agrees (codes "tries") t.tries.no_flag,
+        agrees (codes "base") t.base.no_flag,
+        agrees (codes "seed") t.seed.no_flag,
+        agrees (codes "limit") t.limit.no_flag,
+        agrees (codes "driver") t.driver,
+        flags (codes "stats") t.stats,
+        on_or_off (given_value (codes "stats") given),
+      ) refl

@@ -28,11 +28,13 @@ pub data Each {X : Type 0} (P : X → Type 0) : List X → Type 0 where
   none : Each P []
   more : (x : X) (xs : List X) → P x → Each P xs → Each P (x ∷ xs)
 
-pub each_found : {X : Type 0} (P : X → Type 0) (test : X → Bool) (xs : List X) (s : X) → Each P xs → find test xs ≡ Some s → P s × (test s ≡ true)
+pub each_found : {X : Type 0} (P : X → Type 0) (test : X → Bool) (xs : List X) (s : X) → Each P xs
+    → find test xs ≡ Some s → P s × (test s ≡ true)
 each_found P test [] s h e = absurd (cc e)
 each_found {X} P test (x ∷ xs) s (more _ _ p ps) e = go (test x) refl (each_found P test xs s ps) e
   where
-    go : (b : Bool) → test x ≡ b → (find test xs ≡ Some s → P s × (test s ≡ true)) → (if b then Some x else (find test xs)) ≡ Some s → P s × (test s ≡ true)
+    go : (b : Bool) → test x ≡ b → (find test xs ≡ Some s → P s × (test s ≡ true))
+        → (if b then Some x else (find test xs)) ≡ Some s → P s × (test s ≡ true)
     go true t later f = let same : x ≡ s = cc f in rw (← same) (p, t)
     go false t later f = later f
 
@@ -42,23 +44,28 @@ pub record NamesOption (name word : Text) : Type 0 where
   pub is : word ≡ 45 ∷ 45 ∷ rest
   pub before : before_equals rest ≡ name
 
-pub before_equals-cons : (a : ℕ) (rest : Text) → before_equals (a ∷ rest) ≡ (if a == 61 then [] else a ∷ before_equals rest)
+pub before_equals-cons : (a : ℕ) (rest : Text)
+    → before_equals (a ∷ rest) ≡ (if a == 61 then [] else a ∷ before_equals rest)
 before_equals-cons a rest = go (a == 61) refl
   where
     go : (b : Bool) → (a == 61) ≡ b → before_equals (a ∷ rest) ≡ (if b then [] else a ∷ before_equals rest)
     go true e = simp e
     go false e =
-        let more : 1 + prefix_len (λ x. not (x == 61)) rest ≡ suc (prefix_len (λ x. not (x == 61)) rest) = omega arith in
+        let more : 1 + prefix_len (λ x. not (x == 61)) rest ≡ suc (prefix_len (λ x. not (x == 61)) rest) =
+        omega arith in
         simp (e, more)
 
-pub before_cons : (a c : ℕ) (rest name : Text) → before_equals (a ∷ rest) ≡ c ∷ name → (a ≡ c) × (before_equals rest ≡ name)
+pub before_cons : (a c : ℕ) (rest name : Text) → before_equals (a ∷ rest) ≡ c ∷ name → (a ≡ c)
+    × (before_equals rest ≡ name)
 before_cons a c rest name h = go (a == 61) (sym (before_equals-cons a rest) ∙ h)
   where
-    go : (b : Bool) → (if b then [] else a ∷ before_equals rest) ≡ c ∷ name → (a ≡ c) × (before_equals rest ≡ name)
+    go : (b : Bool) → (if b then [] else a ∷ before_equals rest) ≡ c ∷ name → (a ≡ c)
+        × (before_equals rest ≡ name)
     go true e = absurd (cc e)
     go false e = (cc e, cc e)
 
-pub names_option : (name word : Text) → bytes_eq (45 ∷ 45 ∷ name) (before_equals word) ≡ true → NamesOption name word
+pub names_option : (name word : Text) → bytes_eq (45 ∷ 45 ∷ name) (before_equals word) ≡ true
+    → NamesOption name word
 names_option name word h = of_word word (sym (bytes_eq-same (45 ∷ 45 ∷ name) (before_equals word) h))
   where
     of_word : (word : Text) → before_equals word ≡ 45 ∷ 45 ∷ name → NamesOption name word
@@ -73,7 +80,8 @@ pub before_lacks : (text : Text) → has_equals text ≡ false → before_equals
 before_lacks [] h = refl
 before_lacks (a ∷ rest) h = go (a == 61) refl h (before_lacks rest)
   where
-    go : (b : Bool) → (a == 61) ≡ b → (b || has_equals rest) ≡ false → (has_equals rest ≡ false → before_equals rest ≡ rest) → before_equals (a ∷ rest) ≡ a ∷ rest
+    go : (b : Bool) → (a == 61) ≡ b → (b || has_equals rest) ≡ false
+        → (has_equals rest ≡ false → before_equals rest ≡ rest) → before_equals (a ∷ rest) ≡ a ∷ rest
     go true e h later = absurd (cc h)
     go false e h later = before_equals-cons a rest ∙ (let tail = later h in simp (e, tail))
 
@@ -105,33 +113,48 @@ plain_number (d ∷ ds) h = go (eqb d 45) refl
   where
     go : (b : Bool) → eqb d 45 ≡ b → not b ≡ true
     go false e = refl
-    go true e = let is : d ≡ 45 = eqb→eq d 45 (rw e tt) in absurd (let bad : is_number (45 ∷ ds) ≡ true = subst (λ x. is_number (x ∷ ds) ≡ true) is h in cc bad)
+    go true e = let is : d ≡ 45 = eqb→eq d 45 (rw e tt)
+        in absurd (let bad : is_number (45 ∷ ds) ≡ true = subst (λ x. is_number (x ∷ ds) ≡ true) is h
+        in cc bad)
 
-plain_name : (names : List Text) (text : Text) → list_all is_plain names ≡ true → list_any (λ name. bytes_eq name text) names ≡ true → is_plain text ≡ true
+plain_name : (names : List Text) (text : Text) → list_all is_plain names ≡ true
+    → list_any (λ name. bytes_eq name text) names ≡ true → is_plain text ≡ true
 plain_name [] text all any = absurd (cc any)
-plain_name (x ∷ xs) text all any = go (bytes_eq x text) refl any (plain_name xs text (and_right (is_plain x) _ all))
+plain_name (x ∷ xs) text all any =
+    go (bytes_eq x text) refl any (plain_name xs text (and_right (is_plain x) _ all))
   where
-    go : (b : Bool) → bytes_eq x text ≡ b → (b || list_any (λ name. bytes_eq name text) xs) ≡ true → (list_any (λ name. bytes_eq name text) xs ≡ true → is_plain text ≡ true) → is_plain text ≡ true
-    go true e h later = let same : x ≡ text = bytes_eq-same x text e in rw (← same) (and_left (is_plain x) _ all)
+    go : (b : Bool) → bytes_eq x text ≡ b → (b || list_any (λ name. bytes_eq name text) xs) ≡ true
+        → (list_any (λ name. bytes_eq name text) xs ≡ true → is_plain text ≡ true) → is_plain text ≡ true
+    go true e h later = let same : x ≡ text = bytes_eq-same x text e
+        in rw (← same) (and_left (is_plain x) _ all)
     go false e h later = later h
 
-pub plain_value : (calm : Bool) (kind : Kind) (text : Text) → is_plain_kind kind ≡ true → value_fault calm kind text ≡ None → is_plain text ≡ true
+pub plain_value : (calm : Bool) (kind : Kind) (text : Text) → is_plain_kind kind ≡ true
+    → value_fault calm kind text ≡ None → is_plain text ≡ true
 plain_value calm (number least most) text plain h = go (is_number text) refl h
   where
-    go : (b : Bool) → is_number text ≡ b → (if b then (if nat_le least (number_of text) && nat_le (number_of text) most then None else Some OutOfRange) else Some NotNumber) ≡ None → is_plain text ≡ true
+    go : (b : Bool) → is_number text ≡ b
+        → (if b then (if nat_le least (number_of text) && nat_le (number_of text) most then None else Some
+        OutOfRange) else Some NotNumber) ≡ None → is_plain text ≡ true
     go true e h = plain_number text e
     go false e h = absurd (cc h)
 plain_value calm (choice names) text plain h = go (list_any (λ name. bytes_eq name text) names) refl h
   where
-    go : (b : Bool) → list_any (λ name. bytes_eq name text) names ≡ b → (if b then (if calm && bytes_eq text (codes "threads") then Some Calm else None) else Some BadChoice) ≡ None → is_plain text ≡ true
+    go : (b : Bool) → list_any (λ name. bytes_eq name text) names ≡ b
+        → (if b then (if calm && bytes_eq text (codes "threads") then Some Calm else None) else Some
+        BadChoice) ≡ None → is_plain text ≡ true
     go true e h = plain_name names text plain e
     go false e h = absurd (cc h)
 plain_value calm flag text plain h = absurd (cc plain)
 
-pub lacks_equals : (text : Text) → position_or_len (λ b. b == 61) text ≡ length text → has_equals text ≡ false
+pub lacks_equals : (text : Text) → position_or_len (λ b. b == 61) text ≡ length text
+    → has_equals text ≡ false
 lacks_equals [] h = refl
 lacks_equals (a ∷ rest) h = go (a == 61) refl h (lacks_equals rest)
   where
-    go : (b : Bool) → (a == 61) ≡ b → (if not b then 1 + prefix_len (λ x. not (x == 61)) rest else 0) ≡ length (a ∷ rest) → (position_or_len (λ b. b == 61) rest ≡ length rest → has_equals rest ≡ false) → has_equals (a ∷ rest) ≡ false
+    go : (b : Bool) → (a == 61) ≡ b
+        → (if not b then 1 + prefix_len (λ x. not (x == 61)) rest else 0) ≡ length (a ∷ rest)
+        → (position_or_len (λ b. b == 61) rest ≡ length rest → has_equals rest ≡ false)
+        → has_equals (a ∷ rest) ≡ false
     go true e h later = absurd (omega (arith, h))
     go false e h later = let tail = later (omega (arith, h)) in simp (e, tail)

@@ -36,7 +36,7 @@ run_options = slot (codes "places") (number 1 64)
     ∷ slot (codes "base") (number 2 64)
     ∷ slot (codes "seed") (number 0 18446744073709551615)
     ∷ slot (codes "limit") (number 1 1099511627776)
-    ∷ slot (codes "driver") (choice (codes "one" ∷ []))
+    ∷ slot (codes "driver") (choice (codes "one" ∷ codes "turns" ∷ []))
     ∷ slot (codes "stats") flag
     ∷ []
 

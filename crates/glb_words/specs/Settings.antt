@@ -17,9 +17,10 @@ abbrev pub number_or : ℕ → Option Text → ℕ
 number_or default None = default
 number_or default (Some text) = number_of text
 
--- the driver that a value names: there is one
+-- the driver that a value names; without a value it is that of one bag
 abbrev pub driver_or_one : Option Text → Driver
-driver_or_one value = driver.One
+driver_or_one None = driver.One
+driver_or_one (Some text) = if bytes_eq text (codes "turns") then driver.Turns else driver.One
 
 -- whether a flag was given
 abbrev pub is_on : Option Text → Bool

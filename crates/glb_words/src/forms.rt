@@ -33,7 +33,7 @@ pub struct JobForm {
     pub options: &'static [Field],
 }
 
-const DRIVERS: [&'static str; 1] = ["one"];
+const DRIVERS: [&'static str; 2] = ["one", "turns"];
 
 const RUN_OPTIONS: [Field; 8] = [
     Field {

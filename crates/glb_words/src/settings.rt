@@ -29,6 +29,8 @@ pub enum Job {
 pub enum Driver {
     /// One bag.
     One,
+    /// Places that take turns on one thread.
+    Turns,
 }
 
 /// What the words ask for. An option that was not given has its default.
@@ -96,6 +98,21 @@ fn job_of(job: JobName, matches: &ArgMatches<'_>) -> Job
     }
 }
 
+fn driver_of(matches: &ArgMatches<'_>) -> Driver
+    ensures { result ≡ driver_or_one (first_value (found_of matches.now) (codes "driver")) }
+{
+    match matches.get_str("driver") {
+        Some(text) => {
+            if text == "turns" {
+                Driver::Turns
+            } else {
+                Driver::One
+            }
+        }
+        None => Driver::One,
+    }
+}
+
 fn stats_of(matches: &ArgMatches<'_>) -> bool
     ensures { result ≡ is_on (first_value (found_of matches.now) (codes "stats")) }
 {
@@ -118,7 +135,7 @@ fn settings_of(job: JobName, matches: &ArgMatches<'_>) -> Settings
         base: small_number_of(matches, "base", (2, 64), 2),
         seed: number_of(matches, "seed", (0, 18446744073709551615), 0),
         limit: number_of(matches, "limit", (1, 1099511627776), 1099511627776),
-        driver: Driver::One,
+        driver: driver_of(matches),
         stats: stats_of(matches),
     }
 }

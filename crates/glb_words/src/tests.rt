@@ -25,7 +25,7 @@ fn options_are_read_in_both_forms(rt: HostRuntime) -> Result<(), Fail> {
         "--batch=1",
         "--seed=18446744073709551615",
         "--stats",
-        "--driver=one",
+        "--driver=turns",
     ];
     let words = words_of(alloc, &texts)?;
     let settings = Settings {
@@ -36,7 +36,7 @@ fn options_are_read_in_both_forms(rt: HostRuntime) -> Result<(), Fail> {
         base: 2,
         seed: 18446744073709551615,
         limit: 1099511627776,
-        driver: Driver::One,
+        driver: Driver::Turns,
         stats: true,
     };
     assert_eq!(rt; read_settings(alloc, words.as_slice(), false), Ok(settings));
@@ -93,7 +93,7 @@ fn the_first_fault_is_told(rt: HostRuntime) -> Result<(), Fail> {
             3,
         ),
         (&["queens", "8", "--driver", "two"], WordKind::BadChoice, 3),
-        (&["queens", "8", "--driver=two"], WordKind::BadChoice, 2),
+        (&["queens", "8", "--driver=turn"], WordKind::BadChoice, 2),
         (
             &["queens", "8", "--driver", "threads"],
             WordKind::BadChoice,

@@ -12,7 +12,9 @@ settings_of-requires c =
     let rule = rule_of c.in_ok-values.values.form in
     let given = given_of c.in_ok-values.values.given.items in
     let words = texts_of c.args.words.now in
-    values_fit rule c.args.calm given _ (λ name. c.in-Ok.ensures.value c.args.calm given name read) (λ name. c.in-Ok.ensures.flag c.args.calm given name read) (checked c.args.calm words rule given read) (tabled c.args.calm words rule given read)
+    values_fit rule c.args.calm given _ (λ name. c.in-Ok.ensures.value c.args.calm given name read)
+    (λ name. c.in-Ok.ensures.flag c.args.calm given name read)
+    (checked c.args.calm words rule given read) (tabled c.args.calm words rule given read)
 
 pub returns-clause-ok : goal.returns-clause-ok
 returns-clause-ok c =
@@ -20,5 +22,8 @@ returns-clause-ok c =
     let rule = rule_of c.in_ok-values.values.form in
     let given = given_of c.in_ok-values.values.given.items in
     let words = texts_of c.args.words.now in
-    let same = settings_agree rule c.args.calm given _ (λ name. c.in-Ok.ensures.value c.args.calm given name read) (λ name. c.in-Ok.ensures.flag c.args.calm given name read) (checked c.args.calm words rule given read) (tabled c.args.calm words rule given read) in
+    let same = settings_agree rule c.args.calm given _
+    (λ name. c.in-Ok.ensures.value c.args.calm given name read)
+    (λ name. c.in-Ok.ensures.flag c.args.calm given name read)
+    (checked c.args.calm words rule given read) (tabled c.args.calm words rule given read) in
     ap settings_or_fault read ∙ ap Ok (sym (c.settings_of.ensures.settings ∙ same))
