@@ -1,4 +1,6 @@
 pub mod TurnFacts
+pub mod LookFacts
+pub mod WatchFacts
 pub mod StepFacts
 pub mod PlayFacts
 pub mod BagFacts

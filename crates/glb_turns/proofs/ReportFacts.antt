@@ -1,8 +1,10 @@
 -- What the report of a play to the end tells.
 use Rattle.std.proofs.Common.{◌≡◌, ◌≢◌, ℕ, zero, suc, ◌-◌, ◌*◌, ◌^◌, ◌<◌, ◌≤◌, List, [], ◌++◌, length, get_or, min, refl, sym, ap, subst, ◌∙◌, arith}
-use Rattle.std.specs.Prelude.{Some, slice_get, ◌==◌}
+use Rattle.std.specs.Prelude.{Some, All, slice_get, ◌==◌}
 use Rattle.std.specs.List.Sorted.{IsPermutation}
 use Rattle.std.proofs.lemmas.List.{nil_from_length}
+use Rattle.std.proofs.lemmas.List.Elements.{All-from_get_or}
+use Rattle.std.proofs.lemmas.List.FromFn.{length-map-range_with_len, get_or-map-range_with_len}
 use Rattle.std.proofs.lemmas.List.Sorted.{IsPermutation-refl, IsPermutation-trans, IsPermutation-append_left, IsPermutation-append_right, length_permutation}
 use Rattle.glb_laws.specs.Monoid.{MonoidLaws}
 use Rattle.glb_laws.specs.Expansion.{Expansion, Expands, combined}
@@ -14,7 +16,7 @@ use Rattle.glb_tree.specs.declared.run.RunFault.TheVariants as fault
 use Rattle.glb_tree.proofs.Sizes.{never_more}
 use Rattle.glb_tree.proofs.Folds.{outcome_of}
 use Rattle.glb_stats.specs.declared.counters.Counters.{Counters}
-use Rattle.glb_stats.specs.Balances.{IsBalanced}
+use Rattle.glb_stats.specs.Balances.{IsBalanced, HasSmallUnits}
 use Rattle.glb_core.specs.World.{WorldEdge, Idle, Asked, Refused, Loot, Setup, World, loot_of}
 use Rattle.glb_core.specs.Setups.{degree}
 use Rattle.glb_core.specs.Lawful.{IsLawfulFrom, across, all_done, all_left, travelling}
@@ -118,7 +120,8 @@ pub starts_begin : {B I V : Type 0} (items : B → List I) (value : I → V) (co
     (x : WorldView B V) (q : Params) (lists : List (List I)) → StartsAt items unit q lists x
     → Begins items value combine unit x (λ p. get_or lists p [])
 starts_begin {I = I} items value combine unit x q lists h =
-    let none : join_to {I = I} x.cube.places (λ p. []) ≡ [] = join_none x.cube.places (λ p. []) (λ p l. refl) in
+    let none : join_to {I = I} x.cube.places (λ p. []) ≡ [] =
+    join_none x.cube.places (λ p. []) (λ p l. refl) in
     record { stands = h.2; fold = h.1 ∙ ap (combined value combine unit) (sym none) }
 
 -- at the start nothing is done
@@ -193,6 +196,27 @@ module _ {B I V : Type 0} (items : B → List I) (children : I → List I) (valu
       (sym e.plays.stands.total)
       (finished_balanced s w L.0 places_few tries_few items_few finished)
 
+  abbrev place_counters : ℕ → Counters
+  place_counters p = counters_of (w.place p).count
+
+  -- there are counters for each place
+  report_many : length (all_counters s w) ≡ first.params.places
+  report_many = length-map-range_with_len place_counters 0 s.places ∙ G.stands.shows.places
+
+  -- the units are far from the last value
+  report_small : All HasSmallUnits (all_counters s w)
+  report_small = All-from_get_or HasSmallUnits (all_counters s w) (place_counters 0) (λ p l.
+      let here : p < s.places =
+      subst (λ n. p < n) (length-map-range_with_len place_counters 0 s.places) l in
+      let few = counts_small s w L.0 places_few tries_few items_few p here in
+      let units : HasSmallUnits (place_counters p) = record {
+        sent = let n = few.sent_units in omega arith;
+        got = let n = few.got_units in omega arith;
+      } in
+      subst HasSmallUnits
+      (sym (get_or-map-range_with_len place_counters 0 s.places p p (place_counters 0) here
+      (omega arith))) units)
+
   -- requests stay within their bounds
   pub report_asks : (p : ℕ) (c : Counters) → slice_get (all_counters s w) p ≡ Some c
       → c.asks ≤ s.tries * c.items
@@ -244,6 +268,8 @@ module _ {B I V : Type 0} (items : B → List I) (children : I → List I) (valu
     bags = bags;
     same = λ p l. same p;
     ends = report_ends;
+    many = report_many;
+    small = report_small;
     balance = report_balance;
     asks = report_asks;
     line_asks = report_line_asks;

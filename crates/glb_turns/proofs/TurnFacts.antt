@@ -1,14 +1,11 @@
 -- What one turn rests on, and how turns join.
-use Rattle.std.proofs.Common.{◌≡◌, ◌≢◌, ℕ, suc, ◌+◌, ◌%◌, ◌<◌, List, [], ◌∷◌, ◌++◌, length, refl, sym, ap, subst, ◌∙◌, ⊎_elim, arith, get_or, set}
+use Rattle.std.proofs.Common.{◌≡◌, ◌≢◌, ℕ, suc, ◌+◌, ◌*◌, ◌/◌, ◌%◌, ◌<◌, List, [], ◌∷◌, ◌++◌, length, refl, sym, ap, subst, ◌∙◌, ⊎_elim, arith}
 use Rattle.glb_core.specs.World.{Setup, World}
-use Rattle.glb_core.specs.Sight.{IsMadeFor, sight}
 use Rattle.glb_core.specs.Schedules.{Passes, ScheduledTurn, ScheduledRun}
-use Rattle.glb_cube.specs.Lines.{Cube}
-use Rattle.glb_turns.specs.Turns.{HasSights, DecidesAt, FindsPlace}
+use Rattle.glb_turns.specs.Turns.{DecidesAt, FindsPlace}
 use Rattle.std.specs.Prelude.{Some}
 use Rattle.std.proofs.lemmas.Bool.{cases_eq}
-use Rattle.std.proofs.lemmas.List.{get_or-set_same, get_or-set_other, length-set}
-use Rattle.glb_core.specs.declared.seen.Seen.{Seen}
+use Rattle.std.proofs.lemmas.Nat.{mod_below, mod-mul-add, div-add-mod'}
 use Rattle.glb_core.specs.declared.event.Event.{Event}
 
 module _ {I : Type 0} (children : I → List I) (s : Setup) (seed : ℕ) where
@@ -31,20 +28,6 @@ module _ {I : Type 0} (children : I → List I) (s : Setup) (seed : ℕ) where
   scheduled_length old new (n ∷ ns) (e ∷ es) r = ap suc (scheduled_length r.0 new ns es r.2)
   scheduled_length old new [] (e ∷ es) r = absurd r
   scheduled_length old new (n ∷ ns) [] r = absurd r
-
--- one place looked round
-pub sights_set : (c : Cube) (seens : List Seen) (q : ℕ) (z : Seen) → HasSights c seens
-    → IsMadeFor c q (sight z)
-    → HasSights c (set seens q z)
-sights_set c seens q z all one p d l =
-    let within : p < length seens = omega (arith, length-set seens q z) in
-    ⊎_elim
-    (λ (same : p ≡ q). subst (λ y. IsMadeFor c p (sight y))
-    (sym (ap (λ k. get_or (set seens q z) k d) same ∙ get_or-set_same seens q z d (omega arith)))
-    (subst (λ k. IsMadeFor c k (sight z)) (sym same) one))
-    (λ (other : p ≢ q). subst (λ y. IsMadeFor c p (sight y))
-    (sym (get_or-set_other seens q p z d other)) (all p d within))
-    (cases_eq p q)
 
 module _ {I : Type 0} (seed : ℕ) (s : Setup) (w : World I) (n ahead q places : ℕ)
     (same : s.places ≡ places) (here : q ≡ (n + ahead) % places)
@@ -72,3 +55,13 @@ module _ {I : Type 0} (seed : ℕ) (s : Setup) (w : World I) (n ahead q places :
     here = d.0;
     decides = d.1;
   }
+
+-- the number of a place is the same however often the rounds went
+pub round_again : (n j m : ℕ) → 0 < m → (n % m + j) % m ≡ (n + j) % m
+round_again n j m some =
+    let r : ℕ = n % m + j in
+    let a = div-add-mod' n m in
+    let b = div-add-mod' r m in
+    let twice : (n / m + r / m) * m ≡ n / m * m + r / m * m = grind arith in
+    let e : n + j ≡ (n / m + r / m) * m + r % m = omega (arith, a, b, twice) in
+    sym (ap (λ k. k % m) e ∙ mod-mul-add (n / m + r / m) m (r % m) (mod_below r m some))

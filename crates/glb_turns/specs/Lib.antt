@@ -1,5 +1,6 @@
 pub mod ScheduledRuns
 pub mod Turns
+pub mod Watches
 pub use Rattle.glb_core.specs.Counters
 pub use Rattle.glb_core.specs.Finish
 pub use Rattle.glb_core.specs.History

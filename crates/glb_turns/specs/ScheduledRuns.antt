@@ -1,8 +1,8 @@
 -- What a run by turns reports: the end of the run of its schedule.
-use Rattle.std.specs.Prelude.{◌≡◌, ℕ, zero, suc, ◌*◌, ◌≤◌, ◌<◌, Some, List, [], ◌∷◌, ◌++◌, slice_get, IsPermutation}
+use Rattle.std.specs.Prelude.{◌≡◌, ℕ, zero, suc, ◌*◌, ◌≤◌, ◌<◌, Some, List, [], ◌∷◌, ◌++◌, length, All, slice_get, IsPermutation}
 use Rattle.glb_laws.specs.Expansion.{combined}
 use Rattle.glb_tree.specs.Runs.{IsOutcome}
-use Rattle.glb_stats.specs.Balances.{IsBalanced}
+use Rattle.glb_stats.specs.Balances.{IsBalanced, HasSmallUnits}
 use Rattle.glb_stats.specs.declared.counters.Counters.{Counters}
 use Rattle.glb_cube.specs.Lines.{Cube, IsCube}
 use Rattle.glb_core.specs.Sums.{join_to}
@@ -47,8 +47,8 @@ pub record EndsSchedule {I V : Type 0} (children : I → List I) (value : I → 
   pub value_done : total ≡ combined value combine unit (all_done s last)
   pub counted : counters ≡ all_counters s last
 
--- what a run by turns reports: the outcome of the roots' trees, and counters that balance and stay within
--- their bounds, as they stand at the end of the run of the schedule
+-- what a run by turns reports: the outcome of the roots' trees, and for each place counters that balance and
+-- stay within their bounds, as they stand at the end of the run of the schedule
 pub record IsTurnsReport {I V : Type 0} (children : I → List I) (value : I → V) (combine : V → V → V)
     (unit : V) (q : Params) (roots : ℕ → List I) (will : ℕ → ℕ)
     (items : ℕ) (total : V) (counters : List Counters) : Type 0 where
@@ -60,6 +60,8 @@ pub record IsTurnsReport {I V : Type 0} (children : I → List I) (value : I →
   pub same : (p : ℕ) → p < q.places → IsPermutation (roots p) (bags p)
   pub ends : EndsSchedule children value combine unit (setup_for cube q bags) q.seed bags will
       items total counters
+  pub many : length counters ≡ q.places
+  pub small : All HasSmallUnits counters
   pub balance : IsBalanced counters items
       (all_degrees (setup_for cube q bags)) (all_awake (setup_for cube q bags))
   pub asks : (p : ℕ) (c : Counters) → slice_get counters p ≡ Some c

@@ -1,8 +1,6 @@
 -- What the steps of the driver promise, of each world for which its tables stand.
-use Rattle.std.specs.Prelude.{◌≡◌, ◌≢◌, ℕ, ◌+◌, ◌%◌, ◌<◌, List, length, slice_index_or, Some, None, Option}
-use Rattle.glb_cube.specs.Lines.{Cube}
+use Rattle.std.specs.Prelude.{◌≡◌, ◌≢◌, ℕ, ◌+◌, ◌%◌, ◌<◌, List, Some, None, Option}
 use Rattle.glb_core.specs.World.{Setup, World}
-use Rattle.glb_core.specs.Sight.{IsMadeFor, sight}
 use Rattle.glb_core.specs.Schedules.{decision, Passes, ScheduledTurn, ScheduledRun}
 use Rattle.glb_core.specs.History.{start}
 use Rattle.glb_core.specs.Finish.{AllGone as AreGone}
@@ -10,7 +8,6 @@ use Rattle.glb_core.specs.Tables.{WorldView}
 use Rattle.glb_core.specs.Standing.{StandsFor, HasFold}
 use Rattle.glb_core.proofs.LedWorlds.{IsLed}
 use Rattle.glb_core.specs.declared.kinds.Phase.TheVariants as phase
-use Rattle.glb_core.specs.declared.seen.Seen.{Seen}
 use Rattle.glb_core.specs.declared.event.Event.{Event}
 use Rattle.glb_core.specs.declared.event.Action.TheVariants.{Do}
 use Rattle.glb_turns.specs.ScheduledRuns.{setup_for, first_numbers}
@@ -20,11 +17,6 @@ use Rattle.glb_turns.specs.declared.driver.Turned.TheVariants.{AllGone, Went, No
 -- decisions alone have led to a world for which the tables stand
 abbrev pub IsPlayed : {B I V : Type 0} → (B → List I) → WorldView B V → Type 0
 IsPlayed {I = I} items x = (s : Setup) × (w : World I) × StandsFor items s x w × IsLed s w
-
--- each place has what was made for it to look round with
-abbrev pub HasSights : Cube → List Seen → Type 0
-HasSights c seens =
-    (p : ℕ) (d : Seen) → p < length seens → IsMadeFor c p (sight (slice_index_or seens p d))
 
 -- what a place decides: nothing, or an event
 abbrev pub DecidesAt : {I : Type 0} → ℕ → Setup → World I → ℕ → Option Event → Type 0

@@ -1,10 +1,6 @@
 //! The bags with which the places start.
-ghost use Rattle.std.specs.Prelude.{◌≡◌, ◌<◌, ℕ, [], map, get_or, length, vec_len, All, IfOk, IsPermutation};
-ghost use Rattle.glb_core.specs.Sight.{IsMadeFor, sight};
-ghost use Rattle.glb_turns.specs.Turns.{HasSights};
+ghost use Rattle.std.specs.Prelude.{◌≡◌, ◌<◌, ℕ, [], map, get_or, vec_len, All, IfOk, IsPermutation};
 
-use glb_core::Seen;
-use glb_cube::Lines;
 use glb_laws::{Bag, NoMemory, Program};
 use std::alloc::Global;
 
@@ -44,16 +40,4 @@ pub(crate) fn bags_of<P: Program, B: Bag<P>>(
         bags.push(bag_of::<P, B>(alloc, program, list)?)?;
     }
     Ok(bags)
-}
-
-/// What each place looks round with.
-pub(crate) fn sights_of(alloc: Global, lines: &Lines) -> Result<Vec<Seen>, NoMemory>
-    ensures many { IfOk result (λ seens. length seens.items ≡ lines.now.places) }
-    ensures sights { IfOk result (λ seens. HasSights lines.now seens.items) }
-{
-    let mut seens = Vec::new(alloc);
-    for place in 0..lines.places() {
-        seens.push(Seen::new(alloc, place, lines)?)?;
-    }
-    Ok(seens)
 }

@@ -1,76 +1,62 @@
 //! Plays a world of places by the numbers of a schedule.
 ghost use Rattle.std.specs.Prelude.{◌≡◌, ◌≢◌, ℕ, ◌+◌, ◌%◌, ◌^◌, ◌<◌, ◌≤◌, [], length, List, map, get_or, vec_len, OnOk, IfOk, IfErr, MatchOption};
 ghost use Rattle.glb_core.specs.World.{Setup, World as Whole};
-ghost use Rattle.glb_core.specs.Sight.{IsMadeFor, sight};
 ghost use Rattle.glb_core.specs.Schedules.{decision, Passes};
-ghost use Rattle.glb_core.specs.Standing.{StandsFor};
-ghost use Rattle.glb_core.specs.ItemEffects.{AllFit};
-ghost use Rattle.glb_turns.specs.Turns.{IsPlayed, HasSights, DecidesAt, FindsPlace, TurnsTo, IsTurnOf, Begins, PlaysToEnd};
+ghost use Rattle.glb_core.specs.Standing.{StandsFor, LeadsWholly, Fails};
+ghost use Rattle.glb_core.specs.TableEffects.{NamesBelow};
+ghost use Rattle.glb_core.specs.ItemEffects.{AllFit, KeepAllFit};
+ghost use Rattle.glb_turns.specs.Turns.{IsPlayed, FindsPlace, TurnsTo, IsTurnOf, Begins, PlaysToEnd};
+ghost use Rattle.glb_turns.specs.Watches.{HasWatches};
 ghost use Rattle.glb_core.specs.Sums.{join_to};
 ghost use Rattle.glb_tree.specs.Runs.{HasCause};
 ghost use Rattle.glb_core.specs.Setups.{IsWithinLimits};
 ghost use Rattle.glb_turns.specs.ScheduledRuns.{IsTurnsReport};
 
-use super::bags::{bags_of, sights_of};
+use super::bags::bags_of;
 use super::schedule::Schedule;
-use glb_core::{Action, Event, Params, Phase, Seen, StepFault, World, next};
+use super::watch::{Watch, decision_of, forget_all, notice, watches_of};
+use glb_core::{Event, Params, StepFault, World};
 use glb_laws::{Bag, Monoid, Program};
 use glb_stats::Report;
 use glb_tree::RunFault;
 use std::alloc::Global;
 
-/// The place so many ahead of the number, round and round.
-fn place_from(number: u32, ahead: u32, places: u32) -> u32
-    requires { 0 < places }
-    ensures { result ≡ (number + ahead) % places }
+/// The place so many ahead of the first one, round and round.
+fn place_from(first: u32, ahead: u32, places: u32) -> u32
+    requires first { first < places }
+    requires ahead { ahead < places }
+    requires few { places ≤ 64 }
+    ensures { result ≡ (first + ahead) % places }
 {
-    ((u64::from(number) + u64::from(ahead)) % u64::from(places)) as u32
-}
-
-/// What the place does next, if it has something to do.
-fn decision_of<P: Program, B: Bag<P>>(
-    world: &World<P, B>,
-    seen: &mut Seen,
-    place: u32,
-) -> Option<Event>
-    requires place { place < world.now.cube.places }
-    requires made { IsMadeFor world.now.cube place (sight seen.old) }
-    requires played { IsPlayed {I = P.Item} B.items world.now }
-    ensures made { IsMadeFor world.now.cube place (sight seen.new) }
-    ensures decides { (s : Setup) (w : Whole P.Item) → StandsFor B.items s world.now w →
-        DecidesAt world.now.params.seed s w place result }
-{
-    let state = world.state(place);
-    if let Phase::Gone = state.phase {
-        return None;
-    }
-    world.look_round(place, seen);
-    match next(&state, seen) {
-        Action::Do(event) => Some(event),
-        Action::Poll => None,
+    let place = first + ahead;
+    if place < places {
+        place
+    } else {
+        place - places
     }
 }
 
 /// The first place from the number upwards and round that has something to do, and what it does.
 fn find_decision<P: Program, B: Bag<P>>(
     world: &World<P, B>,
-    seens: &mut Vec<Seen>,
+    watches: &mut Vec<Watch>,
     number: u32,
 ) -> Option<(u32, Event)>
-    requires many { length seens.old.items ≡ world.now.cube.places }
-    requires sights { HasSights world.now.cube seens.old.items }
+    requires many { length watches.old.items ≡ world.now.cube.places }
+    requires watches { HasWatches {I = P.Item} B.items world.now watches.old.items }
     requires played { IsPlayed {I = P.Item} B.items world.now }
-    ensures many { length seens.new.items ≡ world.now.cube.places }
-    ensures sights { HasSights world.now.cube seens.new.items }
+    ensures many { length watches.new.items ≡ world.now.cube.places }
+    ensures watches { HasWatches {I = P.Item} B.items world.now watches.new.items }
     ensures finds { (s : Setup) (w : Whole P.Item) → StandsFor B.items s world.now w →
         MatchOption result
         ((j : ℕ) → j < s.places → Passes world.now.params.seed s w ((number + j) % s.places))
         (λ found. FindsPlace world.now.params.seed s w number found.0 found.1) }
 {
     let places = world.lines().places();
+    let first = number % places;
     for ahead in 0..places {
-        let place = place_from(number, ahead, places);
-        match decision_of(world, &mut seens[place as usize], place) {
+        let place = place_from(first, ahead, places);
+        match decision_of(world, &mut watches[place as usize], place) {
             Some(event) => return Some((place, event)),
             None => {}
         }
@@ -86,20 +72,59 @@ enum Turned {
     NoMemory { place: u32 },
 }
 
+/// Does the event, and keeps the watches.
+fn step<P: Program, B: Bag<P>>(
+    world: &mut World<P, B>,
+    program: &P,
+    watches: &mut Vec<Watch>,
+    event: Event,
+) -> Result<u64, StepFault>
+    requires many { length watches.old.items ≡ world.old.cube.places }
+    requires watches { HasWatches {I = P.Item} B.items world.old watches.old.items }
+    requires played { IsPlayed {I = P.Item} B.items world.old }
+    requires named { NamesBelow world.old.cube.places event }
+    requires fits { AllFit B.fits world.old program.now }
+    requires total { world.old.total ≤ 2 ^ 41 }
+    ensures many { length watches.new.items ≡ world.new.cube.places }
+    ensures watches { HasWatches {I = P.Item} B.items world.new watches.new.items }
+    ensures step { IfOk result
+        (λ k. LeadsWholly B.items (P.children program.now) (P.value program.now) P.Value.combine
+        P.Value.unit world.old event k world.new) }
+    ensures fault { IfErr result
+        (λ f. Fails B.items (P.children program.now) (P.value program.now) P.Value.combine
+        P.Value.unit world.old event world.new f) }
+    ensures fits { KeepAllFit B.fits world.old world.new }
+    ensures graph { world.new.cube ≡ world.old.cube }
+    ensures params { world.new.params ≡ world.old.params }
+{
+    let ended = world.live() == 0;
+    let stop = world.stop();
+    match world.step(program, event) {
+        Ok(count) => {
+            notice(world, watches, event, ended, stop);
+            Ok(count)
+        }
+        Err(fault) => {
+            forget_all(watches);
+            Err(fault)
+        }
+    }
+}
+
 /// The turn of the number: the first place from there on that has something to do does it.
 fn turn<P: Program, B: Bag<P>>(
     world: &mut World<P, B>,
     program: &P,
-    seens: &mut Vec<Seen>,
+    watches: &mut Vec<Watch>,
     number: u32,
 ) -> Turned
-    requires many { length seens.old.items ≡ world.old.cube.places }
-    requires sights { HasSights world.old.cube seens.old.items }
+    requires many { length watches.old.items ≡ world.old.cube.places }
+    requires watches { HasWatches {I = P.Item} B.items world.old watches.old.items }
     requires played { IsPlayed {I = P.Item} B.items world.old }
     requires fits { AllFit B.fits world.old program.now }
     requires total { world.old.total ≤ 2 ^ 41 }
-    ensures many { length seens.new.items ≡ world.new.cube.places }
-    ensures sights { HasSights world.new.cube seens.new.items }
+    ensures many { length watches.new.items ≡ world.new.cube.places }
+    ensures watches { HasWatches {I = P.Item} B.items world.new watches.new.items }
     ensures played { IsPlayed {I = P.Item} B.items world.new }
     ensures fits { AllFit B.fits world.new program.now }
     ensures cube { world.new.cube ≡ world.old.cube }
@@ -110,11 +135,11 @@ fn turn<P: Program, B: Bag<P>>(
     ensures turned { TurnsTo B.items (P.children program.now) (P.value program.now)
         P.Value.combine P.Value.unit world.old world.new number result }
 {
-    let (place, event) = match find_decision(world, seens, number) {
+    let (place, event) = match find_decision(world, watches, number) {
         Some(found) => found,
         None => return Turned::AllGone,
     };
-    match world.step(program, event) {
+    match step(world, program, watches, event) {
         Ok(_) => Turned::Went { place },
         Err(StepFault::NotEnabled) => unreachable!(),
         Err(StepFault::NoMemory) => Turned::NoMemory { place },
@@ -122,17 +147,27 @@ fn turn<P: Program, B: Bag<P>>(
 }
 
 /// The place halts the run with the code.
-fn begin_halt<P: Program, B: Bag<P>>(world: &mut World<P, B>, program: &P, place: u32, code: u64)
+fn begin_halt<P: Program, B: Bag<P>>(
+    world: &mut World<P, B>,
+    program: &P,
+    watches: &mut Vec<Watch>,
+    place: u32,
+    code: u64,
+)
+    requires many { length watches.old.items ≡ world.old.cube.places }
+    requires watches { HasWatches {I = P.Item} B.items world.old watches.old.items }
     requires played { IsPlayed {I = P.Item} B.items world.old }
     requires fits { AllFit B.fits world.old program.now }
     requires total { world.old.total ≤ 2 ^ 41 }
     requires place { place < world.old.cube.places }
+    ensures many { length watches.new.items ≡ world.new.cube.places }
+    ensures watches { HasWatches {I = P.Item} B.items world.new watches.new.items }
     ensures played { IsPlayed {I = P.Item} B.items world.new }
     ensures fits { AllFit B.fits world.new program.now }
     ensures cube { world.new.cube ≡ world.old.cube }
     ensures most { world.new.total ≤ world.old.total + 65536 }
 {
-    match world.step(program, Event::Halt { place, code }) {
+    match step(world, program, watches, Event::Halt { place, code }) {
         Ok(_) => {}
         Err(StepFault::NotEnabled) => {}
         Err(StepFault::NoMemory) => unreachable!(),
@@ -143,22 +178,22 @@ fn begin_halt<P: Program, B: Bag<P>>(world: &mut World<P, B>, program: &P, place
 fn halt<P: Program, B: Bag<P>, S: Schedule>(
     world: &mut World<P, B>,
     program: &P,
-    seens: &mut Vec<Seen>,
+    watches: &mut Vec<Watch>,
     schedule: &mut S,
     place: u32,
     code: u64,
 )
-    requires many { length seens.old.items ≡ world.old.cube.places }
-    requires sights { HasSights world.old.cube seens.old.items }
+    requires many { length watches.old.items ≡ world.old.cube.places }
+    requires watches { HasWatches {I = P.Item} B.items world.old watches.old.items }
     requires played { IsPlayed {I = P.Item} B.items world.old }
     requires fits { AllFit B.fits world.old program.now }
     requires total { world.old.total ≤ 2 ^ 40 + 65536 }
     requires place { place < world.old.cube.places }
 {
-    begin_halt(world, program, place, code);
+    begin_halt(world, program, watches, place, code);
     let places = world.lines().places();
     for _ in 0..places {
-        match turn(world, program, seens, schedule.turn()) {
+        match turn(world, program, watches, schedule.turn()) {
             Turned::AllGone => return,
             Turned::Went { .. } | Turned::NoMemory { .. } => {}
         }
@@ -169,12 +204,12 @@ fn halt<P: Program, B: Bag<P>, S: Schedule>(
 fn play<P: Program, B: Bag<P>, S: Schedule>(
     world: &mut World<P, B>,
     program: &P,
-    seens: &mut Vec<Seen>,
+    watches: &mut Vec<Watch>,
     schedule: &mut S,
     limit: u64,
 ) -> Result<(), RunFault>
-    requires many { length seens.old.items ≡ world.old.cube.places }
-    requires sights { HasSights world.old.cube seens.old.items }
+    requires many { length watches.old.items ≡ world.old.cube.places }
+    requires watches { HasWatches {I = P.Item} B.items world.old watches.old.items }
     requires fits { AllFit B.fits world.old program.now }
     requires limited { limit ≤ 2 ^ 40 }
     requires begins { (bags : ℕ → List P.Item) ×
@@ -192,17 +227,17 @@ fn play<P: Program, B: Bag<P>, S: Schedule>(
 {
     for _ in 0..u64::MAX {
         let number = schedule.turn();
-        match turn(world, program, seens, number) {
+        match turn(world, program, watches, number) {
             Turned::AllGone => return Ok(()),
             Turned::Went { place } => {
                 let items = world.total();
                 if items > limit {
-                    halt(world, program, seens, schedule, place, 1);
+                    halt(world, program, watches, schedule, place, 1);
                     return Err(RunFault::TooMany { items });
                 }
             }
             Turned::NoMemory { place } => {
-                halt(world, program, seens, schedule, place, 2);
+                halt(world, program, watches, schedule, place, 2);
                 return Err(RunFault::NoMemory);
             }
         }
@@ -237,11 +272,11 @@ pub fn run_turns<P: Program, B: Bag<P>, S: Schedule>(
         Ok(world) => world,
         Err(_) => return Err(RunFault::NoMemory),
     };
-    let mut seens = match sights_of(alloc, world.lines()) {
-        Ok(seens) => seens,
+    let mut watches = match watches_of(alloc, world.lines()) {
+        Ok(watches) => watches,
         Err(_) => return Err(RunFault::NoMemory),
     };
-    match play(&mut world, program, &mut seens, schedule, params.limit) {
+    match play(&mut world, program, &mut watches, schedule, params.limit) {
         Ok(()) => Ok(world.into_report()),
         Err(fault) => Err(fault),
     }

@@ -6,6 +6,7 @@ mod driver;
 mod schedule;
 #[cfg(test)]
 mod tests;
+mod watch;
 
 pub use driver::run_turns;
 pub use schedule::{Rounds, Schedule};

@@ -8,7 +8,7 @@ use Rattle.glb_turns.proofs.driver.play.Goals as goal
 pub loop-init : goal.loop-init
 loop-init g c = record {
   many = c.requires.many;
-  sights = c.requires.sights;
+  watches = c.requires.watches;
   fits = c.requires.fits;
   cube = refl;
   params = refl;
@@ -61,7 +61,7 @@ returns-then-items-limit-clause-fault g c = λ bags G.
 pub loop-preserved : goal.loop-preserved
 loop-preserved g c = record {
   many = c.in-Went.ensures.many;
-  sights = c.in-Went.ensures.sights;
+  watches = c.in-Went.ensures.watches;
   fits = c.in-Went.ensures.fits;
   cube = c.in-Went.ensures.cube ∙ c.loop.invariant.cube;
   params = c.in-Went.ensures.params ∙ c.loop.invariant.params;

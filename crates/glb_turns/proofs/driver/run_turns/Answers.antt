@@ -2,14 +2,14 @@ use Rattle.std.proofs.Common.{◌∙◌, ◌≤◌, ◌^◌, [], map, get_or, su
 use Rattle.glb_core.specs.Sums.{join_to}
 use Rattle.glb_core.specs.declared.params.Params.{Params}
 use Rattle.glb_tree.specs.Runs.{HasCause}
-use Rattle.glb_turns.specs.Turns.{HasSights}
+use Rattle.glb_turns.proofs.WatchFacts.{watches_start}
 use Rattle.glb_turns.proofs.ReportFacts.{starts_begin, begins_none, cause_moved, joined_same, report_of}
 use Rattle.glb_turns.proofs.driver.run_turns.Goals as goal
 
-pub play-requires-clause-sights : goal.play-requires-clause-sights
-play-requires-clause-sights g c =
-    subst (λ k. HasSights k c.in-Ok-sights_of.seens.items) c.lines.ensures
-    c.in-Ok-sights_of.ensures.sights
+pub play-requires-clause-watches : goal.play-requires-clause-watches
+play-requires-clause-watches g c =
+    watches_start g.B.Bag.items c.in-Ok-new.world _ c.in-Ok-watches_of.watches.items c.lines.ensures
+    c.in-Ok-watches_of.ensures.stale
 
 pub play-requires-clause-fits : goal.play-requires-clause-fits
 play-requires-clause-fits g c = c.in-Ok-new.ensures.fits c.args.program.now c.in-Ok.ensures.fits
