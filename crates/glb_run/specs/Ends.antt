@@ -3,7 +3,6 @@ use Rattle.std.specs.Prelude.{◌≡◌, ◌≤◌, ◌<◌, ◌⊎◌, ℕ, Boo
 use Rattle.glb_io.specs.Bytes.{Gives, Takes, NoneLeft}
 use Rattle.glb_io.specs.Faults.{Rose}
 use Rattle.glb_words.specs.Rules.{Text}
-use Rattle.glb_words.specs.declared.fault.WordKind.{WordKind}
 use Rattle.glb_words.specs.declared.fault.WordFault.{WordFault}
 use Rattle.glb_words.specs.declared.settings.Job.{Job}
 use Rattle.glb_words.specs.declared.settings.Job.TheVariants as job

@@ -1,5 +1,5 @@
 -- The tree of each job, and its report.
-use Rattle.std.specs.Prelude.{◌≡◌, ℕ, true, List, [], ◌∷◌, length, max, Bool}
+use Rattle.std.specs.Prelude.{ℕ, true, List, [], length, max}
 use Rattle.glb_laws.specs.Bounded.{sat_sum, greatest, capped_sum}
 use Rattle.glb_laws.specs.Pair.{both}
 use Rattle.glb_laws.specs.declared.sat_sum.SatSum.{SatSum}

@@ -1,6 +1,5 @@
 -- What the words of the command order.
-use Rattle.std.specs.Prelude.{◌≤◌, ℕ, Bool, List, Result, Ok, Err}
-use Rattle.glb_core.specs.declared.params.Params.{Params}
+use Rattle.std.specs.Prelude.{◌≤◌, ◌<◌, ◌^◌, Bool, List, Result, Ok, Err}
 use Rattle.glb_words.specs.Rules.{Text}
 use Rattle.glb_words.specs.Settings.{read_settings, JobFits}
 use Rattle.glb_words.specs.declared.fault.WordFault.{WordFault}
@@ -38,4 +37,5 @@ pub record OrderFits (order : Order) : Type 0 where
   pub batch : (1 ≤ order.params.batch) × (order.params.batch ≤ 65536)
   pub tries : order.params.tries ≤ 64
   pub base : (2 ≤ order.params.base) × (order.params.base ≤ 64)
+  pub seed : order.params.seed < 2 ^ 64
   pub limit : (1 ≤ order.params.limit) × (order.params.limit ≤ 1099511627776)

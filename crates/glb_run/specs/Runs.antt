@@ -1,11 +1,10 @@
 -- What a report tells of the run of a job's tree.
-use Rattle.std.specs.Prelude.{◌≡◌, ℕ, true, List, [], ◌∷◌, ◌++◌, Bool}
-use Rattle.glb_tree.specs.Runs.{IsOutcome, IsTooMany, HasCause}
-use Rattle.glb_tree.specs.declared.run.Outcome.{Outcome}
-use Rattle.glb_tree.specs.declared.run.RunFault.{RunFault}
+use Rattle.std.specs.Prelude.{◌≡◌, ℕ, zero, suc, ◌%◌, ◌^◌, true, List, [], ◌∷◌, ◌++◌}
+use Rattle.glb_tree.specs.Runs.{IsOutcome, IsTooMany}
 use Rattle.glb_stats.specs.Balances.{IsBalanced}
 use Rattle.glb_stats.specs.declared.counters.Counters.{Counters}
-use Rattle.glb_stats.specs.declared.report.Report.{Report}
+use Rattle.glb_core.specs.declared.params.Params.{Params}
+use Rattle.glb_turns.specs.ScheduledRuns.{IsTurnsReport}
 use Rattle.glb_words.specs.Rules.{Text}
 use Rattle.glb_words.specs.declared.settings.Driver.{Driver}
 use Rattle.glb_words.specs.declared.settings.Driver.TheVariants as driver
@@ -30,10 +29,23 @@ lone_place items = record {
   wakes = 0;
 }
 
--- the counters of the places, by the driver: they balance
-abbrev pub AreCounters : Driver → ℕ → List Counters → Type 0
-AreCounters driver.One items counters =
+-- the roots with which the places start: the root at place 0, and none elsewhere
+abbrev pub at_first : {X : Type 0} → X → ℕ → List X
+at_first root zero = root ∷ []
+at_first root (suc p) = []
+
+-- the numbers 0, 1, 2 and so on, and 0 again after the last one of 32 bits
+abbrev pub rounds : ℕ → ℕ
+rounds k = k % 2 ^ 32
+
+-- the counters of the places, by the driver: they balance, and those of turns are what a run of the rounds ends
+-- with
+abbrev pub AreCounters : {X V : Type 0} → (X → List X) → (X → V) → V → (V → V → V) → X → Params → Driver
+    → ℕ → V → List Counters → Type 0
+AreCounters children value unit combine root params driver.One items answer counters =
     (counters ≡ lone_place items ∷ []) × IsBalanced counters items (0 ∷ []) (true ∷ [])
+AreCounters children value unit combine root params driver.Turns items answer counters =
+    IsTurnsReport children value combine unit params (at_first root) rounds items answer counters
 
 -- the report has the number of the nodes of the root's tree, which is within the limit, the combination of their
 -- values, and the counters of the places
@@ -42,7 +54,7 @@ pub record IsRun {X V : Type 0} (children : X → List X) (value : X → V)
     (items : ℕ) (answer : V) (counters : List Counters) : Type 0 where
   pub outcome : IsOutcome children value unit combine (root ∷ []) order.params.limit
       (record { items = items; value = answer })
-  pub counted : AreCounters order.driver items counters
+  pub counted : AreCounters children value unit combine root order.params order.driver items answer counters
 
 -- the text tells of such a run
 pub record IsTreeReport {X V : Type 0} (children : X → List X) (value : X → V)

@@ -1,5 +1,5 @@
 //! Runs the tree of a job and tells of it.
-ghost use Rattle.std.specs.Prelude.{◌≡◌, ◌≤◌, ◌<◌, ◌^◌, [], ◌∷◌, length, All, IfOk, IfErr};
+ghost use Rattle.std.specs.Prelude.{◌≡◌, ◌≤◌, ◌<◌, ◌^◌, ℕ, [], ◌∷◌, length, map, get_or, vec_len, All, IfOk, IfErr};
 ghost use Rattle.glb_tree.specs.Runs.{HasCause};
 ghost use Rattle.glb_stats.specs.Balances.{HasSmallUnits};
 ghost use Rattle.glb_graph.specs.Spots.{spot_children};
@@ -7,7 +7,8 @@ ghost use Rattle.glb_graph.specs.declared.dist.Spot.TheVariants.{Root};
 ghost use Rattle.glb_queens.specs.Boards.{boards_below};
 ghost use Rattle.glb_uts.specs.Binomial.{children as node_children};
 ghost use Rattle.glb_run.specs.Orders.{OrderFits};
-ghost use Rattle.glb_run.specs.Runs.{IsRun, lone_place};
+ghost use Rattle.glb_words.specs.declared.settings.Driver.TheVariants as driver;
+ghost use Rattle.glb_run.specs.Runs.{IsRun, lone_place, at_first};
 ghost use Rattle.glb_run.specs.Jobs.{IsQueensReport, IsUtsReport, IsDistReport, tree_of, root_of};
 
 use super::order::Order;
@@ -18,7 +19,9 @@ use glb_laws::Program;
 use glb_queens::Queens;
 use glb_stats::{Counters, Report};
 use glb_tree::{RunFault, run_one};
+use glb_turns::{Rounds, run_turns};
 use glb_uts::Uts;
+use glb_words::Driver;
 use std::alloc::Global;
 
 /// The counters of the one place of a run in one bag.
@@ -54,14 +57,33 @@ fn only<T: Drop>(alloc: Global, item: T) -> Result<Vec<T>, RunFault>
     }
 }
 
-/// Runs the root's tree by the order's driver.
-fn run_tree<P: Program>(
+/// The roots with which so many places start: the root at the first place, and none elsewhere.
+fn roots_at_first<T: Drop>(alloc: Global, root: T, places: u32) -> Result<Vec<Vec<T>>, RunFault>
+    requires { 1 ≤ places }
+    ensures many { IfOk result (λ lists. vec_len lists ≡ places) }
+    ensures lists { IfOk result (λ lists. (p : ℕ) →
+        get_or (map (λ v. v.items) lists.items) p [] ≡ at_first root p) }
+    ensures fault { IfErr result (λ e. e ≡ RunFault.NoMemory) }
+{
+    let mut lists = only(alloc, only(alloc, root)?)?;
+    for _ in 1..places {
+        match lists.push(Vec::new(alloc)) {
+            Ok(()) => {}
+            Err(_) => return Err(RunFault::NoMemory),
+        }
+    }
+    Ok(lists)
+}
+
+/// Runs the root's tree in one bag.
+fn run_in_one_bag<P: Program>(
     alloc: Global,
     program: &P,
     root: P::Item,
     order: &Order,
 ) -> Result<Report<P::Value>, RunFault>
-    requires { OrderFits order.now }
+    requires order { OrderFits order.now }
+    requires driver { order.now.driver ≡ driver.One }
     ensures run { IfOk result (λ r. IsRun (P.children program.now) (P.value program.now)
         P.Value.unit P.Value.combine root order.now r.items r.value r.counters.items) }
     ensures few { IfOk result (λ r. length r.counters.items ≤ 64) }
@@ -83,6 +105,48 @@ fn run_tree<P: Program>(
         value: outcome.value,
         counters,
     })
+}
+
+/// Runs the root's tree over the places of the order, one turn after the other.
+fn run_by_turns<P: Program>(
+    alloc: Global,
+    program: &P,
+    root: P::Item,
+    order: &Order,
+) -> Result<Report<P::Value>, RunFault>
+    requires order { OrderFits order.now }
+    requires driver { order.now.driver ≡ driver.Turns }
+    ensures run { IfOk result (λ r. IsRun (P.children program.now) (P.value program.now)
+        P.Value.unit P.Value.combine root order.now r.items r.value r.counters.items) }
+    ensures few { IfOk result (λ r. length r.counters.items ≤ 64) }
+    ensures units { IfOk result (λ r. All HasSmallUnits r.counters.items) }
+    ensures fault { IfErr result (HasCause (P.children program.now) (root ∷ [])
+        order.now.params.batch order.now.params.limit) }
+{
+    let roots = roots_at_first(alloc, root, order.params.places)?;
+    let mut rounds = Rounds::new();
+    run_turns::<P, ListBag<P>, Rounds>(alloc, program, roots, &order.params, &mut rounds)
+}
+
+/// Runs the root's tree by the order's driver.
+fn run_tree<P: Program>(
+    alloc: Global,
+    program: &P,
+    root: P::Item,
+    order: &Order,
+) -> Result<Report<P::Value>, RunFault>
+    requires { OrderFits order.now }
+    ensures run { IfOk result (λ r. IsRun (P.children program.now) (P.value program.now)
+        P.Value.unit P.Value.combine root order.now r.items r.value r.counters.items) }
+    ensures few { IfOk result (λ r. length r.counters.items ≤ 64) }
+    ensures units { IfOk result (λ r. All HasSmallUnits r.counters.items) }
+    ensures fault { IfErr result (HasCause (P.children program.now) (root ∷ [])
+        order.now.params.batch order.now.params.limit) }
+{
+    match order.driver {
+        Driver::One => run_in_one_bag(alloc, program, root, order),
+        Driver::Turns => run_by_turns(alloc, program, root, order),
+    }
 }
 
 pub(crate) fn queens_report(alloc: Global, n: u32, order: &Order) -> Result<Vec<u8>, RunFault>

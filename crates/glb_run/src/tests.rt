@@ -1,3 +1,6 @@
+mod script;
+mod turns;
+
 use super::{GraphKind, NoGate, Status, WordKind, top, top_calm};
 use glb_io::{CalmSource, MemSink, MemSource, Source};
 use std::alloc::{AllocError, Global};
@@ -31,7 +34,7 @@ fn run<S: Source, R: Abort>(
 ) -> Result<Left, Fail> {
     let words = words_of(alloc, line)?;
     assert!(rt; words.len() < 100);
-    let mut out = MemSink::new(fail, vec![in alloc; 0; 4096]?);
+    let mut out = MemSink::new(fail, vec![in alloc; 0; 16384]?);
     let mut err = MemSink::new(Vec::new(alloc), vec![in alloc; 0; 64]?);
     let status = top_calm(alloc, &words, source, &mut out, &mut err);
     Ok(Left { status, out, err })

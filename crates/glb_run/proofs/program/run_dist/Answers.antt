@@ -1,4 +1,4 @@
-use Rattle.std.proofs.Common.{◌≡◌, ℕ, List, [], ◌∷◌, sym, subst, inl}
+use Rattle.std.proofs.Common.{[], ◌∷◌, sym, subst, inl}
 use Rattle.std.proofs.lemmas.Result.{IfOk-weaker}
 use Rattle.glb_tree.specs.Runs.{HasCause}
 use Rattle.glb_graph.specs.Reading.{SaysGraph}
@@ -17,10 +17,15 @@ returns g c =
     let is = sym c.requires.job in
     let before = stream (g.S.Source.left c.args.source.now) (g.S.Source.faults c.args.source.now) in
     let after = stream (g.S.Source.left c.read_all.new.source) (g.S.Source.faults c.read_all.new.source) in
-    let says : SaysGraph input rows = subst (λ bytes. SaysGraph bytes rows) c.deref.ensures.value c.in-Ok-read_graph.ensures.graph in
-    finished (λ bytes. bytes.items) (HasCause (spot_children rows) (Root ∷ []) order.params.batch order.params.limit) order input _ _ _ _ c.finish.result
+    let says : SaysGraph input rows =
+    subst (λ bytes. SaysGraph bytes rows) c.deref.ensures.value c.in-Ok-read_graph.ensures.graph in
+    finished (λ bytes. bytes.items)
+    (HasCause (spot_children rows) (Root ∷ []) order.params.batch order.params.limit) order input _ _
+    _ _ c.finish.result
     (subst (λ job. HasRead job input before after) is c.in-Ok.ensures.read)
     (λ items large. subst (λ job. HasTooMany job order input items) is (rows, says, large))
     (inl c.requires.job) c.dist_report.result
-    (IfOk-weaker c.dist_report.result _ _ (λ bytes h. subst (λ job. IsReport job order input bytes.items) is (rows, says, h)) c.dist_report.ensures.report)
+    (IfOk-weaker c.dist_report.result _ _
+    (λ bytes h. subst (λ job. IsReport job order input bytes.items) is (rows, says, h))
+    c.dist_report.ensures.report)
     c.dist_report.ensures.fault c.finish.ensures

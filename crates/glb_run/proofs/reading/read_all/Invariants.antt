@@ -4,7 +4,8 @@ use Rattle.glb_run.proofs.reading.read_all.Given as goal
 
 abbrev pub invariant-loop-input : goal.invariant-loop-input
 invariant-loop-input g l = record {
-  reads : Reads l.input.items (stream (g.S.Source.left l.fn.source) (g.S.Source.faults l.fn.source)) (stream (g.S.Source.left l.source) (g.S.Source.faults l.source));
+  reads : Reads l.input.items (stream (g.S.Source.left l.fn.source) (g.S.Source.faults l.fn.source))
+      (stream (g.S.Source.left l.source) (g.S.Source.faults l.source));
   within : length l.input.items ≤ 16777216;
   piece : length l.piece ≡ 8192;
 }
