@@ -7,6 +7,9 @@ use glb_laws::SatSum;
 use glb_queens::Queens;
 use glb_tree::RunFault;
 use glb_turns::{Rounds, run_turns};
+use std::alloc::{AllocError, Global};
+use std::fmt::Write;
+use std::process::Abort;
 use std::test::Fail;
 
 /// Commands, each with its input.
@@ -28,28 +31,38 @@ const JOBS: [(&str, &str); 15] = [
     ("dist", "2 3\n0 0\n0 1\n0 1\n"),
 ];
 
-#[test]
-fn turns_report_what_one_bag_reports(rt: HostRuntime) -> Result<(), Fail> {
-    let alloc = rt.alloc();
-    for (job, text) in JOBS {
-        let one = run_on(&rt, alloc, job, text)?;
-        assert_eq!(rt; one.status, Status::Done, "{job}");
-        for places in [1, 2, 3, 5, 64] {
-            for (batch, tries, base) in [
-                (1, 0, 2),
-                (1, 64, 64),
-                (2, 1, 3),
-                (2, 64, 2),
-                (64, 0, 3),
-                (64, 1, 2),
-                (64, 64, 64),
-            ] {
-                let line = format!(in alloc;
-                    "{job} --driver turns --places {places} --batch {batch} --tries {tries} --base {base}"
-                )?;
-                let turns = run_on(&rt, alloc, line.as_str(), text)?;
-                assert_eq!(rt; turns.status, Status::Done, "{line}");
-                assert_eq!(rt; turns.out.bytes(), one.out.bytes(), "{line}");
+/// Runs the command by turns, with these options, and compares the report.
+fn agree<R: Abort>(
+    rt: &R,
+    alloc: Global,
+    command: (&str, &str),
+    options: (u32, u64, u32, u32),
+    report: &[u8],
+) -> Result<(), Fail> {
+    let (job, text) = command;
+    let (places, batch, tries, base) = options;
+    let line = format!(in alloc;
+        "{job} --driver turns --places {places} --batch {batch} --tries {tries} --base {base}"
+    )?;
+    let left = run_on(rt, alloc, line.as_str(), text)?;
+    assert_eq!(rt; left.status, Status::Done, "{line}");
+    assert_eq!(rt; left.out.bytes(), report, "{line}");
+    Ok(())
+}
+
+/// The same for every choice of the options.
+fn agree_always<R: Abort>(
+    rt: &R,
+    alloc: Global,
+    command: (&str, &str),
+    report: &[u8],
+) -> Result<(), Fail> {
+    for places in [1, 2, 3, 5, 64] {
+        for batch in [1, 2, 64] {
+            for tries in [0, 1, 64] {
+                for base in [2, 3, 64] {
+                    agree(rt, alloc, command, (places, batch, tries, base), report)?;
+                }
             }
         }
     }
@@ -57,31 +70,44 @@ fn turns_report_what_one_bag_reports(rt: HostRuntime) -> Result<(), Fail> {
 }
 
 #[test]
+fn turns_report_what_one_bag_reports(rt: HostRuntime) -> Result<(), Fail> {
+    let alloc = rt.alloc();
+    for (job, text) in JOBS {
+        let one = run_on(&rt, alloc, job, text)?;
+        assert_eq!(rt; one.status, Status::Done, "{job}");
+        agree_always(&rt, alloc, (job, text), one.out.bytes())?;
+    }
+    Ok(())
+}
+
+const NOTHING: &str =
+    "asks 0 shrugs 0 denied 0 given 0 got 0 line_asks 0 line_given 0 line_got 0 sent_units 0 got_units 0 sleeps 0 wakes 0";
+
+const SIX_LINES: &str =
+    "asks 0 shrugs 0 denied 0 given 0 got 0 line_asks 6 line_given 0 line_got 0 sent_units 0 got_units 0 sleeps 1 wakes 0";
+
+/// The report of four queens where the first of 64 places does all in one batch, and then asks its lines.
+fn lone_report(alloc: Global) -> Result<String, AllocError> {
+    let mut report = format!(in alloc;
+        "queens 4\nitems 17\nplacements 2\nplaces 64\nplace 0 items 17 {SIX_LINES}\n"
+    )?;
+    for place in 1..64 {
+        write!(&mut report, "place {place} items 0 {NOTHING}\n")?;
+    }
+    write!(&mut report, "total items 17 {SIX_LINES}\n")?;
+    Ok(report)
+}
+
+#[test]
 fn turns_tell_the_counters_of_places(rt: HostRuntime) -> Result<(), Fail> {
     let alloc = rt.alloc();
     let one = run_on(&rt, alloc, "queens 5 --stats", "")?;
-    let alone = run_on(
-        &rt,
-        alloc,
-        "queens 5 --driver turns --places 1 --tries 0 --stats",
-        "",
-    )?;
-    assert_eq!(rt; alone.status, Status::Done);
+    let line = "queens 5 --driver turns --places 1 --tries 0 --stats";
+    let alone = run_on(&rt, alloc, line, "")?;
     assert_eq!(rt; alone.out.bytes(), one.out.bytes());
     let line = "queens 4 --driver turns --places 64 --batch 65536 --tries 0 --stats";
     let many = run_on(&rt, alloc, line, "")?;
-    assert_eq!(rt; many.status, Status::Done);
-    let none =
-        "asks 0 shrugs 0 denied 0 given 0 got 0 line_asks 0 line_given 0 line_got 0 sent_units 0 got_units 0 sleeps 0 wakes 0";
-    let first =
-        "asks 0 shrugs 0 denied 0 given 0 got 0 line_asks 6 line_given 0 line_got 0 sent_units 0 got_units 0 sleeps 1 wakes 0";
-    let mut report = format!(in alloc;
-        "queens 4\nitems 17\nplacements 2\nplaces 64\nplace 0 items 17 {first}\n"
-    )?;
-    for place in 1..64 {
-        report.push_str(format!(in alloc; "place {place} items 0 {none}\n")?.as_str())?;
-    }
-    report.push_str(format!(in alloc; "total items 17 {first}\n")?.as_str())?;
+    let report = lone_report(alloc)?;
     assert_eq!(rt; many.out.bytes(), report.as_bytes());
     Ok(())
 }
