@@ -1,7 +1,6 @@
 //! Bytes in and out, with a count of the faults of each stream.
 #![tactic(auto)]
 
-mod failed;
 mod memory;
 mod sink;
 mod source;
@@ -9,8 +8,7 @@ mod stream;
 #[cfg(test)]
 mod tests;
 
-pub use failed::Failed;
 pub use memory::{CalmSource, MemSink, MemSource, NullSink};
 pub use sink::Sink;
-pub use source::Source;
+pub use source::{Failed, Source};
 pub use stream::{StdSink, StdSource, SteadyRead, SteadyWrite};

@@ -1,15 +1,17 @@
 //! Sources and sinks over memory, for tests and for callers that have their bytes at hand.
-ghost use Rattle.std.specs.Prelude.{◌≡◌, ◌+◌, ◌-◌, ◌^◌, ◌<◌, ◌≤◌, ◌⊎◌, ◌++◌, [], min, length, take, drop, vec_len, Some, None, IsSome, Contains, IfOk, IfErr, OnOk, OnErr};
+ghost use Rattle.std.specs.Prelude.{◌≡◌, ◌+◌, ◌-◌, ◌^◌, ◌<◌, ◌≤◌, ◌⊎◌, min, ⊤};
+ghost use Rattle.std.specs.Prelude.{◌++◌, [], length, take, drop, vec_len, Contains};
+ghost use Rattle.std.specs.Prelude.{Some, None, IsSome, IfOk, IfErr, OnOk, OnErr};
 ghost use Rattle.glb_io.specs.Bytes.{Takes, Gives, NoneLeft};
 ghost use Rattle.glb_io.specs.Faults.{Rose};
-ghost use Rattle.glb_io.specs.Scripts.{ScriptedSource, ScriptedSink, plan_at, planned, taken_of};
+ghost use Rattle.glb_io.specs.Scripts.{ScriptedSource, ScriptedSink};
+ghost use Rattle.glb_io.specs.Scripts.{plan_at, planned, taken_of, after_call};
 
-use super::failed::Failed;
 use super::sink::Sink;
-use super::source::Source;
+use super::source::{Failed, Source};
 use std::marker::Model;
 
-/// Copies from the front of `from` to the front of `into`, at most `most` bytes, and answers how many.
+/// Copies at most `most` bytes from the front of `from` to that of `into`, and answers how many.
 fn copy_front(from: &[u8], most: usize, into: &mut [u8]) -> usize
     ensures count { result ≡ min (min most (length into.new)) (length from.now) }
     ensures bytes { take result into.new ≡ take result from.now }
@@ -107,6 +109,7 @@ impl Source for MemSource {
         ensures stays { OnErr result (self.new.left ≡ self.old.left) }
         ensures later { self.old.faults ≤ self.new.faults }
         ensures cause { OnErr result (Rose self.old.faults self.new.faults) }
+        ensures no_fault { OnOk result (self.new.faults ≡ self.old.faults) }
         ensures named { OnErr result (Contains self.old.fail self.old.calls) }
         ensures not_named { OnOk result (Contains self.old.fail self.old.calls → ⊥) }
         ensures step { IfOk result (λ k. k ≤ self.old.step) }
@@ -134,6 +137,7 @@ pub struct CalmSource {
 }
 
 impl CalmSource {
+    /// A read gives as many bytes as fit.
     pub fn new(bytes: Vec<u8>) -> CalmSource
         ensures { ⟦<CalmSource as Source>⟧.left result ≡ Some bytes.items }
     {
@@ -161,6 +165,8 @@ impl Sink for NullSink {
     ghost taken = { λ _. None };
 
     ghost faults = { λ _. 0 };
+
+    ghost one_call = { λ _ _ _. ⊤ };
 
     fn write_all(&mut self, _piece: &[u8]) -> Result<(), (Failed, usize)> {
         Ok(())
@@ -192,8 +198,8 @@ impl Model for MemSink {
 }
 
 impl MemSink {
-    /// The calls whose numbers are first members fail after taking as many bytes as the second members
-    /// say; the first call has number 0. `room` is written over from the front.
+    /// The calls whose numbers are first members fail after taking as many bytes as the second
+    /// members say; the first call has number 0. `room` is written over from the front.
     pub fn new(fail: Vec<(u64, usize)>, room: Vec<u8>) -> MemSink
         ensures { result ≡ record {
           taken = [];
@@ -225,14 +231,22 @@ impl Sink for MemSink {
 
     ghost faults = { λ s. s.faults };
 
+    ghost one_call = { λ s piece t. t ≡ after_call s piece };
+
     fn write_all(&mut self, piece: &[u8]) -> Result<(), (Failed, usize)>
         ensures whole { OnOk result (self.new.taken ≡ self.old.taken ++ piece.now) }
         ensures part { IfErr result (λ e. self.new.taken ≡ self.old.taken ++ take e.1 piece.now) }
         ensures within { IfErr result (λ e. e.1 ≤ length piece.now) }
         ensures later { self.old.faults ≤ self.new.faults }
         ensures cause { OnErr result (Rose self.old.faults self.new.faults) }
-        ensures calm { OnOk result ((planned self.old ≡ None) × (length piece.now ≤ self.old.room)) }
-        ensures fails { OnErr result (IsSome (planned self.old) ⊎ (self.old.room < length piece.now)) }
+        ensures no_fault { OnOk result (self.new.faults ≡ self.old.faults) }
+        ensures called { self.new ≡ after_call self.old piece.now }
+        ensures room_ok { OnOk result (self.new.room ≡ self.old.room - length piece.now) }
+        ensures room_err { IfErr result (λ e. self.new.room ≡ self.old.room - e.1) }
+        ensures calm { OnOk result (
+            (planned self.old ≡ None) × (length piece.now ≤ self.old.room)) }
+        ensures fails { OnErr result (
+            IsSome (planned self.old) ⊎ (self.old.room < length piece.now)) }
         ensures count { IfErr result (λ e.
             e.1 ≡ taken_of (planned self.old) (length piece.now) self.old.room) }
         ensures counted { self.new.calls ≡ min (self.old.calls + 1) (2 ^ 64 - 1) }

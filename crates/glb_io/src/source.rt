@@ -1,10 +1,12 @@
-//! Where bytes come from.
-ghost use Rattle.std.specs.Prelude.{◌≡◌, ℕ, ◌<◌, ◌≤◌, List, [], length, take, IfOk, OnErr};
+//! Where bytes come from, and the one fault of reads and writes.
+ghost use Rattle.std.specs.Prelude.{◌≡◌, ℕ, ◌<◌, ◌≤◌, List, [], length, take, IfOk, OnOk, OnErr};
 ghost use Rattle.std.specs.declared.option.Option.{Option};
 ghost use Rattle.glb_io.specs.Bytes.{Takes, NoneLeft};
 ghost use Rattle.glb_io.specs.Faults.{Rose};
 
-use super::failed::Failed;
+/// A read or a write did not work.
+#[derive(Clone, Copy, Debug, PartialEq, Eq)]
+pub struct Failed;
 
 /// Where bytes come from.
 pub trait Source: Drop {
@@ -21,5 +23,6 @@ pub trait Source: Drop {
         ensures end { IfOk result (λ k. k ≡ 0 → 0 < length into.new → NoneLeft (left self.new)) }
         ensures stays { OnErr result (Takes (left self.old) (left self.new) []) }
         ensures later { faults self.old ≤ faults self.new }
-        ensures cause { OnErr result (Rose (faults self.old) (faults self.new)) };
+        ensures cause { OnErr result (Rose (faults self.old) (faults self.new)) }
+        ensures no_fault { OnOk result (faults self.new ≡ faults self.old) };
 }

@@ -1,11 +1,11 @@
-//! std's readers and writers as sources and sinks. What a terminal, a file or a pipe really gives or
-//! takes is trusted.
-ghost use Rattle.std.specs.Prelude.{◌≡◌, ◌≤◌, false, IsSome, None, if◌then◌else◌};
-ghost use Rattle.glb_io.specs.Faults.{Rose};
+//! std's readers and writers as sources and sinks. What a terminal, a file or a pipe really gives
+//! or takes is trusted.
+ghost use Rattle.std.specs.Prelude.{◌≡◌, ◌≤◌, ◌↔◌, true, false, IsSome, None, if◌then◌else◌};
+ghost use Rattle.std.specs.IoError.{error_kind};
+ghost use Rattle.glb_io.specs.Faults.{Rose, after_fault, RisesOnceAtMost};
 
-use super::failed::Failed;
 use super::sink::Sink;
-use super::source::Source;
+use super::source::{Failed, Source};
 use std::io::{Error, ErrorKind, Read, Stderr, Stdin, Stdout, Write};
 
 /// A reader that tells its bytes in every state or in none.
@@ -37,7 +37,9 @@ impl SteadyWrite for Stderr {
 /// How many interruptions one call goes past.
 const TRIES: u32 = 1000;
 
-fn is_interrupted(error: &Error) -> bool {
+fn is_interrupted(error: &Error) -> bool
+    ensures { result ≡ true ↔ error_kind error.now ≡ ErrorKind.Interrupted }
+{
     error.kind() == ErrorKind::Interrupted
 }
 
@@ -111,8 +113,7 @@ impl<W: SteadyWrite + Drop> StdSink<W> {
         ensures done { result.1 ≡ done }
         ensures inner { self.new.inner ≡ self.old.inner }
         ensures silent { self.new.silent ≡ self.old.silent }
-        ensures later { self.old.faults ≤ self.new.faults }
-        ensures rose { Rose self.old.faults self.new.faults }
+        ensures faults { self.new.faults ≡ after_fault self.old.faults }
     {
         self.faults = self.faults.saturating_add(1);
         (Failed, done)
@@ -123,6 +124,8 @@ impl<W: SteadyWrite + Drop> Sink for StdSink<W> {
     ghost taken = { λ s. if s.silent then None else (W.contents s.inner) };
 
     ghost faults = { λ s. s.faults };
+
+    ghost one_call = { λ s _ t. RisesOnceAtMost s.faults t.faults };
 
     fn write_all(&mut self, piece: &[u8]) -> Result<(), (Failed, usize)> {
         let mut done = 0;

@@ -54,6 +54,53 @@ impl SteadyWrite for Reluctant {
     ghost steady = { λ _ _ h. h };
 }
 
+/// Is interrupted so often, takes two bytes, meets an error, and then takes all. A read meets the
+/// error first, and then the end.
+#[derive(Drop)]
+struct Relapsing {
+    interruptions: u32,
+    taken: bool,
+    error: Option<ErrorKind>,
+}
+
+impl Write for Relapsing {
+    fn write(&mut self, buf: &[u8]) -> io::Result<usize> {
+        if self.interruptions > 0 {
+            self.interruptions = self.interruptions.saturating_sub(1);
+            return Err(ErrorKind::Interrupted.into());
+        }
+        if !self.taken {
+            self.taken = true;
+            return Ok(buf.len().min(2));
+        }
+        match self.error.take() {
+            Some(kind) => Err(kind.into()),
+            None => Ok(buf.len()),
+        }
+    }
+
+    fn flush(&mut self) -> io::Result<()> {
+        Ok(())
+    }
+}
+
+impl Read for Relapsing {
+    fn read(&mut self, _buf: &mut [u8]) -> io::Result<usize> {
+        match self.error.take() {
+            Some(kind) => Err(kind.into()),
+            None => Ok(0),
+        }
+    }
+}
+
+impl SteadyRead for Relapsing {
+    ghost steady = { λ _ _ h. h };
+}
+
+impl SteadyWrite for Relapsing {
+    ghost steady = { λ _ _ h. h };
+}
+
 #[test]
 fn sources_give_their_bytes_in_order(rt: HostRuntime) -> Result<(), Fail> {
     let alloc = rt.alloc();
@@ -109,4 +156,31 @@ fn streams_go_past_a_thousand_interruptions(rt: HostRuntime) -> Result<(), Fail>
     };
     assert_eq!(rt; StdSink::new(inner).write_all(b"abcdefg"), Err((Failed, 5)));
     Ok(())
+}
+
+#[test]
+fn a_writer_that_fails_in_mid_stream_is_told(rt: HostRuntime) {
+    for (interruptions, error, told) in [
+        (999, ErrorKind::Interrupted, Ok(())),
+        (1000, ErrorKind::Interrupted, Err((Failed, 2))),
+        (0, ErrorKind::WouldBlock, Err((Failed, 2))),
+    ] {
+        let inner = Relapsing {
+            interruptions,
+            taken: false,
+            error: Some(error),
+        };
+        assert_eq!(rt; StdSink::new(inner).write_all(b"abcde"), told);
+    }
+}
+
+#[test]
+fn a_reader_that_would_block_is_not_asked_again(rt: HostRuntime) {
+    let mut piece = [0; 4];
+    let inner = Relapsing {
+        interruptions: 0,
+        taken: false,
+        error: Some(ErrorKind::WouldBlock),
+    };
+    assert_eq!(rt; StdSource::new(inner).read(&mut piece), Err(Failed));
 }

@@ -1,117 +1,55 @@
 -- clap takes the words that are read without a fault, and finds in them what was given.
-use Rattle.std.proofs.Common.{◌≡◌, ℕ, ◌+◌, ◌||◌, Bool, true, false, not, if◌then◌else◌, List, [], ◌∷◌, ◌++◌, ◌∙◌, refl, sym, ap, Option, Some, None, Result, Ok, Err, fold, eqb, codes, min}
+use Rattle.std.proofs.Common.{◌≡◌, ℕ, ◌+◌, Bool, true, false, if◌then◌else◌, List, []}
+use Rattle.std.proofs.Common.{◌∷◌, ◌++◌, ◌∙◌, refl, sym, ap, Option, Some, None, Result, Ok, Err}
+use Rattle.std.proofs.Common.{fold, eqb, codes, min}
 use Rattle.std.specs.Str.{bytes_eq}
 use Rattle.clap.specs.Lexer.{usize_max}
-use Rattle.clap.specs.Walk.{Row, Walk, idle, option, walked, settled_rows, has_row, arg_by_id, arg_by_index, arg_by_long, used, walk_from, nothing_held}
-use Rattle.clap.specs.Walk.{Rule as ClapRule}
+use Rattle.clap.specs.Walk.{Row, Walk, idle, option, walked, settled_rows, has_row, arg_by_id}
+use Rattle.clap.specs.Walk.{arg_by_long, used, walk_from, nothing_held}
 use Rattle.clap.specs.Simple.{Shape}
 use Rattle.clap.specs.Takes.{walk_passes, turn_passes, settle_passes}
-use Rattle.glb_words.specs.Rules.{Text, Kind, number, choice, flag, Slot, Rule, slot}
-use Rattle.glb_words.specs.Words.{Given, Stage, words, value, State, is_given, before_equals, has_equals, after_equals, value_fault, unless, keep, after_option, option_named, next, at_end, and_then, read_from, start_of}
+use Rattle.glb_words.specs.Rules.{Text, FormRule, Number, Choice, Flag, FieldRule, JobRule}
+use Rattle.glb_words.specs.Rules.{field_rule}
+use Rattle.glb_words.specs.Words.{Given, NextRule, Words, Value, ReadingState, is_given}
+use Rattle.glb_words.specs.Words.{before_equals, has_equals, after_equals, value_fault}
+use Rattle.glb_words.specs.Words.{keep, after_option, option_named, after_word, at_end, and_then}
+use Rattle.glb_words.specs.Words.{read_from, start_of}
 use Rattle.glb_words.specs.declared.fault.WordKind.{WordKind}
 use Rattle.glb_words.specs.declared.fault.WordKind.TheVariants.{Repeated, UnknownOption}
-use Rattle.glb_words.proofs.TextFacts.{Each, none, more, each_found, NamesOption, names_option, before_lacks, after_dashes, is_plain, is_name, is_plain_kind, plain_value}
-use Rattle.glb_words.proofs.ClapFacts.{option_built, flag_built, number_rule, between, held, AreRows, value_row}
-use Rattle.glb_words.proofs.ClapFacts.{are_rows_has, are_rows_more, option_added, number_added, flag_added}
-use Rattle.glb_words.proofs.ClapFacts.{option_walked, option_passes, value_walked, value_passes, joined_walked, joined_passes, flag_walked, flag_passes, number_walked, number_passes, option_settles, number_settles}
+use Rattle.glb_words.proofs.TextFacts.{Each, none, more, each_found, NamesOption, names_option}
+use Rattle.glb_words.proofs.TextFacts.{before_lacks, after_dashes, is_plain, is_name, is_plain_kind}
+use Rattle.glb_words.proofs.TextFacts.{plain_value}
+use Rattle.glb_words.proofs.ClapFacts.{option_built, flag_built, number_rule, between, held}
+use Rattle.glb_words.proofs.ClapFacts.{AreRows, value_row}
+use Rattle.glb_words.proofs.ClapFacts.{are_rows_has, are_rows_more, option_added, number_added}
+use Rattle.glb_words.proofs.ClapFacts.{flag_added}
+use Rattle.glb_words.proofs.ClapFacts.{option_walked, option_passes, value_walked, value_passes}
+use Rattle.glb_words.proofs.ClapFacts.{joined_walked, joined_passes, flag_walked, flag_passes}
+use Rattle.glb_words.proofs.ClapFacts.{number_walked, number_passes, option_settles, number_settles}
+use Rattle.glb_words.proofs.Standing.{Served, Numbered, Fresh, Stands, Ends, at_words, at_value}
+use Rattle.glb_words.proofs.Standing.{not_true, alone, kept, fresh_more}
 
--- what a kind is to clap
-abbrev pub built_for : Kind → Text → ClapRule
-built_for (number least most) name = option_built name
-built_for (choice names) name = option_built name
-built_for flag name = flag_built name
-
-abbrev pub is_fit : Kind → Bool
-is_fit flag = true
-is_fit (number least most) = true
-is_fit (choice names) = is_plain_kind (choice names)
-
--- the built command has the option
-pub record Served (c : List ClapRule) (s : Slot) : Type 0 where
-  pub long : arg_by_long c s.name ≡ Some (built_for s.kind s.name)
-  pub id : arg_by_id c s.name ≡ Some (built_for s.kind s.name)
-  pub name : is_name s.name ≡ true
-  pub fit : is_fit s.kind ≡ true
-
--- the built command has the numbers that are still to come, from a position on
-abbrev pub Numbered : List ClapRule → ℕ → List Slot → Type 0
-Numbered c position [] = Unit {0}
-Numbered c position (s ∷ left) = (arg_by_index c position ≡ Some (number_rule position s.name))
-    × (arg_by_id c s.name ≡ Some (number_rule position s.name))
-    × (is_plain_kind s.kind ≡ true)
-    × Each (λ t. bytes_eq s.name t.name ≡ false) left
-    × Numbered c (min (position + 1) usize_max) left
-
-abbrev pub Fresh : Given → List Slot → Type 0
-Fresh given left = Each (λ t. is_given t.name given ≡ false) left
-
--- clap's walk stands where the reading does
-pub data Stands (c : List ClapRule) : Stage → Given → Walk → Type 0 where
-  at_words : (left : List Slot) (given : Given) (position : ℕ) (rows : List Row)
-      (pending : Option (Text × List Text))
-      → settle_passes c false (held rows pending) ≡ true → AreRows given (settled_rows c pending rows)
-      → Numbered c position left → Fresh given left
-      → Stands c (words left) given (between position rows pending idle)
-  at_value : (s : Slot) (given : Given) (position : ℕ) (rows : List Row)
-      → arg_by_id c s.name ≡ Some (option_built s.name) → is_plain_kind s.kind ≡ true
-      → is_given s.name given ≡ false → AreRows given rows
-      → Stands c (value s) given (between position rows (Some (s.name, [])) (option s.name))
-
-pub record Ends (c : List ClapRule) (w : Walk) (given : Given) : Type 0 where
-  pub passes : settle_passes c false w.held ≡ true
-  pub rows : AreRows given (settled_rows c w.held.pending w.held.rows)
-  pub stopped : w.stopped ≡ None
-
-not_true : (b : Bool) → not b ≡ true → b ≡ false
-not_true true h = absurd (cc h)
-not_true false h = refl
-
--- a name alone
-alone : (name word : Text) → has_equals word ≡ false → NamesOption name word → word ≡ 45 ∷ 45 ∷ name
-alone name word equals names =
-    let no_equals : has_equals names.rest ≡ false = ap has_equals (sym names.is) ∙ equals in
-    names.is ∙ ap (λ (r : Text). 45 ∷ 45 ∷ r) (sym (before_lacks names.rest no_equals) ∙ names.before)
-
--- a value was kept
-pub kept : (f : Option WordKind) (s t : State) → unless f s ≡ Ok t → (f ≡ None) × (s ≡ t)
-kept None s t h = (refl, cc h)
-kept (Some kind) s t h = absurd (cc h)
-
-pub given_more : (name other text : Text) (given : Given) → is_given other given ≡ false
-    → bytes_eq name other ≡ false → is_given other (given ++ (name, text) ∷ []) ≡ false
-given_more name other text [] h e = simp e
-given_more name other text (g ∷ given) h e =
-    go (bytes_eq g.0 other) refl h (given_more name other text given)
-  where
-    go : (b : Bool) → bytes_eq g.0 other ≡ b → (b || is_given other given) ≡ false
-        → (is_given other given ≡ false → bytes_eq name other ≡ false
-        → is_given other (given ++ (name, text) ∷ []) ≡ false)
-        → is_given other (g ∷ given ++ (name, text) ∷ []) ≡ false
-    go true first h later = absurd (cc h)
-    go false first h later = let rest = later h e in simp (first, rest)
-
-pub fresh_more : (name text : Text) (given : Given) (left : List Slot) → Fresh given left
-    → Each (λ t. bytes_eq name t.name ≡ false) left → Fresh (given ++ (name, text) ∷ []) left
-fresh_more name text given [] h e = none
-fresh_more name text given (t ∷ left) (more _ _ p ps) (more _ _ q qs) =
-    more t left (given_more name t.name text given p q) (fresh_more name text given left ps qs)
-
-module _ (top : Shape) (plain : top.args_override_self ≡ false) (rule : Rule) (calm : Bool)
+module _ (top : Shape) (plain : top.args_override_self ≡ false) (rule : JobRule) (calm : Bool)
     (served : Each (Served top.rules) rule.options) where
-  abbrev Steps : Stage → Given → Walk → Text → Type 0
-  Steps stage given w word = (t : State) → next rule calm stage given word ≡ Ok t
-      → (turn_passes top [] w word ≡ true) × Stands top.rules t.stage t.given (walked top.rules [] w word)
+  -- a word that is read is taken, and the walk stands where the reading does
+  abbrev Steps : NextRule → Given → Walk → Text → Type 0
+  Steps stage given w word = (t : ReadingState) → after_word rule calm stage given word ≡ Ok t
+      → (turn_passes top [] w word ≡ true)
+      × Stands top.rules t.next t.given (walked top.rules [] w word)
 
-  pub walks : ((stage : Stage) (given : Given) (w : Walk) (word : Text) → Stands top.rules stage given w
+  -- the same of all words
+  pub walks :
+      ((stage : NextRule) (given : Given) (w : Walk) (word : Text) → Stands top.rules stage given w
       → Steps stage given w word)
-      → (rest : List Text) (at : ℕ) (s : State) (w : Walk) (given : Given)
-      → Stands top.rules s.stage s.given w
+      → (rest : List Text) (at : ℕ) (s : ReadingState) (w : Walk) (given : Given)
+      → Stands top.rules s.next s.given w
       → read_from rule calm at s rest ≡ Ok given
-      → (walk_passes top [] w rest ≡ true) × Ends top.rules (fold (walked top.rules []) w rest) given
+      → (walk_passes top [] w rest ≡ true)
+      × Ends top.rules (fold (walked top.rules []) w rest) given
   unfolding walk_passes read_from
-  walks step [] at s w given stands h = (refl, ended s.stage s.given w stands h)
+  walks step [] at s w given stands h = (refl, ended s.next s.given w stands h)
     where
-      ended : (stage : Stage) (before : Given) (w : Walk) → Stands top.rules stage before w
+      ended : (stage : NextRule) (before : Given) (w : Walk) → Stands top.rules stage before w
           → at_end at stage before ≡ Ok given → Ends top.rules w given
       ended _ _ _ (at_words [] before position rows pending passes are numbered fresh) h =
           let same : before ≡ given = cc h
@@ -120,12 +58,12 @@ module _ (top : Shape) (plain : top.args_override_self ≡ false) (rule : Rule) 
           absurd (cc h)
       ended _ _ _ (at_value s before position rows known fit fresh are) h = absurd (cc h)
   walks step (word ∷ rest) at s w given stands h =
-      go (next rule calm s.stage s.given word) refl h
+      go (after_word rule calm s.next s.given word) refl h
       (λ t. walks step rest (at + 1) t (walked top.rules [] w word) given)
     where
-      go : (r : Result State WordKind) → next rule calm s.stage s.given word ≡ r
+      go : (r : Result ReadingState WordKind) → after_word rule calm s.next s.given word ≡ r
           → and_then at r (λ t. read_from rule calm (at + 1) t rest) ≡ Ok given
-          → ((t : State) → Stands top.rules t.stage t.given (walked top.rules [] w word)
+          → ((t : ReadingState) → Stands top.rules t.next t.given (walked top.rules [] w word)
           → read_from rule calm (at + 1) t rest ≡ Ok given
           → (walk_passes top [] (walked top.rules [] w word) rest ≡ true)
           × Ends top.rules (fold (walked top.rules []) (walked top.rules [] w word) rest) given)
@@ -133,23 +71,26 @@ module _ (top : Shape) (plain : top.args_override_self ≡ false) (rule : Rule) 
           × Ends top.rules (fold (walked top.rules []) w (word ∷ rest)) given
       go (Err kind) e h later = absurd (cc h)
       go (Ok t) e h later =
-          let one = step s.stage s.given w word stands t e in
+          let one = step s.next s.given w word stands t e in
           let others = later t one.1 h in
           let turn = one.0 in
           let tail = others.0 in
           (simp (turn, tail), others.1)
 
   -- a number
-  number_step : (s : Slot) (left : List Slot) (given : Given) (position : ℕ) (rows : List Row)
+  number_step : (s : FieldRule) (left : List FieldRule) (given : Given) (position : ℕ)
+      (rows : List Row)
       (pending : Option (Text × List Text)) (word : Text)
       → settle_passes top.rules false (held rows pending) ≡ true
       → AreRows given (settled_rows top.rules pending rows)
       → Numbered top.rules position (s ∷ left) → Fresh given (s ∷ left) → is_plain word ≡ true
       → (turn_passes top [] (between position rows pending idle) word ≡ true)
-      × Stands top.rules (words left) (given ++ (s.name, word) ∷ [])
+      × Stands top.rules (Words left) (given ++ (s.name, word) ∷ [])
       (walked top.rules [] (between position rows pending idle) word)
-  number_step s left given position rows pending [] passes are numbered fresh no_dash = absurd (cc no_dash)
-  number_step s left given position rows pending (d ∷ ds) passes are numbered (more _ _ new fresh) no_dash =
+  number_step s left given position rows pending [] passes are numbered fresh no_dash =
+      absurd (cc no_dash)
+  number_step s left given position rows pending (d ∷ ds) passes are numbered
+      (more _ _ new fresh) no_dash =
       let dash : eqb d 45 ≡ false = not_true (eqb d 45) no_dash in
       let settled = settled_rows top.rules pending rows in
       let no_row : has_row s.name settled ≡ false = are_rows_has s.name given settled are ∙ new in
@@ -170,11 +111,11 @@ module _ (top : Shape) (plain : top.args_override_self ≡ false) (rule : Rule) 
       )
 
   -- the value of an option, as a word of its own
-  value_step : (s : Slot) (given : Given) (position : ℕ) (rows : List Row) (word : Text)
+  value_step : (s : FieldRule) (given : Given) (position : ℕ) (rows : List Row) (word : Text)
       → arg_by_id top.rules s.name ≡ Some (option_built s.name) → is_given s.name given ≡ false
       → AreRows given rows → is_plain word ≡ true
       → (turn_passes top [] (between position rows (Some (s.name, [])) (option s.name)) word ≡ true)
-      × Stands top.rules (words []) (given ++ (s.name, word) ∷ [])
+      × Stands top.rules (Words []) (given ++ (s.name, word) ∷ [])
       (walked top.rules [] (between position rows (Some (s.name, [])) (option s.name)) word)
   value_step s given position rows [] known new are no_dash = absurd (cc no_dash)
   value_step s given position rows (d ∷ ds) known new are no_dash =
@@ -185,25 +126,28 @@ module _ (top : Shape) (plain : top.args_override_self ≡ false) (rule : Rule) 
       simp known (option_added s.name (d ∷ ds) rows no_row) in
       let now : AreRows (given ++ (s.name, d ∷ ds) ∷ [])
       (settled_rows top.rules (Some (s.name, (d ∷ ds) ∷ [])) rows) =
-      rw then_rows (are_rows_more given rows s.name (d ∷ ds) (value_row (option_built s.name) (d ∷ ds))
+      rw then_rows
+      (are_rows_more given rows s.name (d ∷ ds) (value_row (option_built s.name) (d ∷ ds))
       are refl refl) in (
         value_passes top plain s.name position rows d ds dash known,
         rw (value_walked top plain s.name position rows d ds dash known)
-            (at_words [] (given ++ (s.name, d ∷ ds) ∷ []) position rows (Some (s.name, (d ∷ ds) ∷ []))
+            (at_words [] (given ++ (s.name, d ∷ ds) ∷ []) position rows
+            (Some (s.name, (d ∷ ds) ∷ []))
             (option_settles top plain s.name (d ∷ ds) rows known no_row) now tt none),
       )
 
   -- the three forms of an option: its name alone, with its value, and a flag
-  alone_step : (s : Slot) (given : Given) (position : ℕ) (rows : List Row)
+  alone_step : (s : FieldRule) (given : Given) (position : ℕ) (rows : List Row)
       (pending : Option (Text × List Text)) (word : Text)
       → settle_passes top.rules false (held rows pending) ≡ true
       → AreRows given (settled_rows top.rules pending rows)
-      → is_plain_kind s.kind ≡ true → is_given s.name given ≡ false → has_equals word ≡ false
+      → is_plain_kind s.form ≡ true → is_given s.name given ≡ false → has_equals word ≡ false
       → arg_by_long top.rules s.name ≡ Some (option_built s.name)
       → arg_by_id top.rules s.name ≡ Some (option_built s.name)
       → is_name s.name ≡ true → NamesOption s.name word
       → (turn_passes top [] (between position rows pending idle) word ≡ true)
-      × Stands top.rules (value s) given (walked top.rules [] (between position rows pending idle) word)
+      × Stands top.rules (Value s) given
+      (walked top.rules [] (between position rows pending idle) word)
   alone_step s given position rows pending word passes are fit new equals long id name names =
       let is_word : word ≡ 45 ∷ 45 ∷ s.name = alone s.name word equals names in
       let step = on_name s.name name long in
@@ -214,7 +158,8 @@ module _ (top : Shape) (plain : top.args_override_self ≡ false) (rule : Rule) 
     where
       on_name : (n : Text) → is_name n ≡ true → arg_by_long top.rules n ≡ Some (option_built n)
           → (turn_passes top [] (between position rows pending idle) (45 ∷ 45 ∷ n) ≡ true)
-          × (walked top.rules [] (between position rows pending idle) (45 ∷ 45 ∷ n) ≡ between position
+          × (walked top.rules [] (between position rows pending idle) (45 ∷ 45 ∷ n)
+          ≡ between position
           (settled_rows top.rules pending rows) (Some (n, [])) (option n))
       on_name [] h long = absurd (cc h)
       on_name (n ∷ ns) h long =
@@ -224,7 +169,8 @@ module _ (top : Shape) (plain : top.args_override_self ≡ false) (rule : Rule) 
             option_walked top plain n ns position rows pending before no_equals long,
           )
 
-  flag_step : (s : Slot) (given : Given) (position : ℕ) (rows : List Row)
+  -- a flag
+  flag_step : (s : FieldRule) (given : Given) (position : ℕ) (rows : List Row)
       (pending : Option (Text × List Text)) (word : Text)
       → settle_passes top.rules false (held rows pending) ≡ true
       → AreRows given (settled_rows top.rules pending rows)
@@ -232,7 +178,7 @@ module _ (top : Shape) (plain : top.args_override_self ≡ false) (rule : Rule) 
       → arg_by_long top.rules s.name ≡ Some (flag_built s.name)
       → is_name s.name ≡ true → NamesOption s.name word
       → (turn_passes top [] (between position rows pending idle) word ≡ true)
-      × Stands top.rules (words []) (given ++ (s.name, codes "true") ∷ [])
+      × Stands top.rules (Words []) (given ++ (s.name, codes "true") ∷ [])
       (walked top.rules [] (between position rows pending idle) word)
   flag_step s given position rows pending word passes are new equals long name names =
       let settled = settled_rows top.rules pending rows in
@@ -253,7 +199,8 @@ module _ (top : Shape) (plain : top.args_override_self ≡ false) (rule : Rule) 
       on_name : (n : Text) → is_name n ≡ true → arg_by_long top.rules n ≡ Some (flag_built n)
           → has_row n (settled_rows top.rules pending rows) ≡ false
           → (turn_passes top [] (between position rows pending idle) (45 ∷ 45 ∷ n) ≡ true)
-          × (walked top.rules [] (between position rows pending idle) (45 ∷ 45 ∷ n) ≡ between position
+          × (walked top.rules [] (between position rows pending idle) (45 ∷ 45 ∷ n)
+          ≡ between position
           (used (flag_built n) [] (settled_rows top.rules pending rows)) None idle)
       on_name [] h long fresh = absurd (cc h)
       on_name (n ∷ ns) h long fresh =
@@ -263,7 +210,8 @@ module _ (top : Shape) (plain : top.args_override_self ≡ false) (rule : Rule) 
             flag_walked top plain n ns position rows pending before no_equals long,
           )
 
-  joined_step : (s : Slot) (given : Given) (position : ℕ) (rows : List Row)
+  -- the name of an option with its value
+  joined_step : (s : FieldRule) (given : Given) (position : ℕ) (rows : List Row)
       (pending : Option (Text × List Text)) (word : Text)
       → settle_passes top.rules false (held rows pending) ≡ true
       → AreRows given (settled_rows top.rules pending rows)
@@ -271,13 +219,14 @@ module _ (top : Shape) (plain : top.args_override_self ≡ false) (rule : Rule) 
       → arg_by_long top.rules s.name ≡ Some (option_built s.name)
       → is_name s.name ≡ true → NamesOption s.name word
       → (turn_passes top [] (between position rows pending idle) word ≡ true)
-      × Stands top.rules (words []) (given ++ (s.name, after_equals word) ∷ [])
+      × Stands top.rules (Words []) (given ++ (s.name, after_equals word) ∷ [])
       (walked top.rules [] (between position rows pending idle) word)
   joined_step s given position rows pending word passes are new equals long name names =
       let settled = settled_rows top.rules pending rows in
       let no_row : has_row s.name settled ≡ false = are_rows_has s.name given settled are ∙ new in
       let text = after_equals word in
-      let step = on_rest s.name name names.rest names.before (ap has_equals (sym names.is) ∙ equals) long
+      let step = on_rest s.name name names.rest names.before
+      (ap has_equals (sym names.is) ∙ equals) long
       no_row in
       let same : after_equals names.rest ≡ text = sym (after_dashes names.rest)
       ∙ ap after_equals (sym names.is) in
@@ -287,7 +236,11 @@ module _ (top : Shape) (plain : top.args_override_self ≡ false) (rule : Rule) 
       (are_rows_more given settled s.name text (value_row (option_built s.name) text) are refl refl)
       in (
         ap (λ w. turn_passes top [] (between position rows pending idle) w) names.is ∙ step.0,
-        rw (ap (λ w. walked top.rules [] (between position rows pending idle) w) names.is ∙ step.1, same)
+        rw (
+          ap (λ w. walked top.rules [] (between position rows pending idle) w) names.is
+              ∙ step.1,
+          same,
+        )
             (at_words [] (given ++ (s.name, text) ∷ []) position
             (used (option_built s.name) (text ∷ []) settled) None refl now tt none),
       )
@@ -296,8 +249,10 @@ module _ (top : Shape) (plain : top.args_override_self ≡ false) (rule : Rule) 
           → has_equals rest ≡ true → arg_by_long top.rules n ≡ Some (option_built n)
           → has_row n (settled_rows top.rules pending rows) ≡ false
           → (turn_passes top [] (between position rows pending idle) (45 ∷ 45 ∷ rest) ≡ true)
-          × (walked top.rules [] (between position rows pending idle) (45 ∷ 45 ∷ rest) ≡ between position
-          (used (option_built n) (after_equals rest ∷ []) (settled_rows top.rules pending rows)) None idle)
+          × (walked top.rules [] (between position rows pending idle) (45 ∷ 45 ∷ rest)
+          ≡ between position
+          (used (option_built n) (after_equals rest ∷ [])
+          (settled_rows top.rules pending rows)) None idle)
       on_rest n h [] before equals long fresh = absurd (cc equals)
       on_rest n h (r ∷ rest) before equals long fresh = (
         joined_passes top plain r rest n position rows pending before equals long passes fresh,
@@ -305,38 +260,43 @@ module _ (top : Shape) (plain : top.args_override_self ≡ false) (rule : Rule) 
       )
 
   -- an option that takes a value
-  valued : (s : Slot) (given : Given) (position : ℕ) (rows : List Row)
-      (pending : Option (Text × List Text)) (word : Text) (t : State)
+  valued : (s : FieldRule) (given : Given) (position : ℕ) (rows : List Row)
+      (pending : Option (Text × List Text)) (word : Text) (t : ReadingState)
       → settle_passes top.rules false (held rows pending) ≡ true
       → AreRows given (settled_rows top.rules pending rows)
-      → is_plain_kind s.kind ≡ true
+      → is_plain_kind s.form ≡ true
       → arg_by_long top.rules s.name ≡ Some (option_built s.name)
       → arg_by_id top.rules s.name ≡ Some (option_built s.name)
       → is_name s.name ≡ true → NamesOption s.name word
       → (if is_given s.name given then Err Repeated else
       (if has_equals word then keep calm s (after_equals word) given [] else Ok
-      (record { stage = value s; given = given }))) ≡ Ok t
+      (record { next = Value s; given = given }))) ≡ Ok t
       → (turn_passes top [] (between position rows pending idle) word ≡ true)
-      × Stands top.rules t.stage t.given (walked top.rules [] (between position rows pending idle) word)
+      × Stands top.rules t.next t.given
+      (walked top.rules [] (between position rows pending idle) word)
   valued s given position rows pending word t passes are fit long id name names h =
       go (is_given s.name given) (has_equals word) refl refl h
     where
       go : (a b : Bool) → is_given s.name given ≡ a → has_equals word ≡ b
           → (if a then Err Repeated else
           (if b then keep calm s (after_equals word) given [] else Ok
-          (record { stage = value s; given = given }))) ≡ Ok t
+          (record { next = Value s; given = given }))) ≡ Ok t
           → (turn_passes top [] (between position rows pending idle) word ≡ true)
-          × Stands top.rules t.stage t.given (walked top.rules [] (between position rows pending idle) word)
+          × Stands top.rules t.next t.given
+          (walked top.rules [] (between position rows pending idle) word)
       go true b e f h = absurd (cc h)
       go false true e f h =
-          let is = kept (value_fault calm s.kind (after_equals word)) _ t h in
-          rw (← is.1) (joined_step s given position rows pending word passes are e f long name names)
+          let is = kept (value_fault calm s.form (after_equals word)) _ t h in
+          rw (← is.1)
+          (joined_step s given position rows pending word passes are e f long name names)
       go false false e f h =
-          let is : record { stage = value s; given = given } ≡ t = cc h in
-          rw (← is) (alone_step s given position rows pending word passes are fit e f long id name names)
+          let is : record { next = Value s; given = given } ≡ t = cc h in
+          rw (← is)
+          (alone_step s given position rows pending word passes are fit e f long id name names)
 
-  flagged : (s : Slot) (given : Given) (position : ℕ) (rows : List Row)
-      (pending : Option (Text × List Text)) (word : Text) (t : State)
+  -- a flag, or the fault of its word
+  flagged : (s : FieldRule) (given : Given) (position : ℕ) (rows : List Row)
+      (pending : Option (Text × List Text)) (word : Text) (t : ReadingState)
       → settle_passes top.rules false (held rows pending) ≡ true
       → AreRows given (settled_rows top.rules pending rows)
       → arg_by_long top.rules s.name ≡ Some (flag_built s.name)
@@ -344,7 +304,8 @@ module _ (top : Shape) (plain : top.args_override_self ≡ false) (rule : Rule) 
       → (if has_equals word then Err UnknownOption else
       (if is_given s.name given then Err Repeated else keep calm s (codes "true") given [])) ≡ Ok t
       → (turn_passes top [] (between position rows pending idle) word ≡ true)
-      × Stands top.rules t.stage t.given (walked top.rules [] (between position rows pending idle) word)
+      × Stands top.rules t.next t.given
+      (walked top.rules [] (between position rows pending idle) word)
   flagged s given position rows pending word t passes are long name names h =
       go (has_equals word) (is_given s.name given) refl refl h
     where
@@ -352,55 +313,64 @@ module _ (top : Shape) (plain : top.args_override_self ≡ false) (rule : Rule) 
           → (if a then Err UnknownOption else
           (if b then Err Repeated else keep calm s (codes "true") given [])) ≡ Ok t
           → (turn_passes top [] (between position rows pending idle) word ≡ true)
-          × Stands top.rules t.stage t.given (walked top.rules [] (between position rows pending idle) word)
+          × Stands top.rules t.next t.given
+          (walked top.rules [] (between position rows pending idle) word)
       go true b e f h = absurd (cc h)
       go false true e f h = absurd (cc h)
       go false false e f h =
-          let is = kept (value_fault calm s.kind (codes "true")) _ t h in
+          let is = kept (value_fault calm s.form (codes "true")) _ t h in
           rw (← is.1) (flag_step s given position rows pending word passes are f e long name names)
 
-  by_kind : (name : Text) (kind : Kind) (given : Given) (position : ℕ) (rows : List Row)
-      (pending : Option (Text × List Text)) (word : Text) (t : State)
+  -- an option by its form
+  by_kind : (name : Text) (kind : FormRule) (given : Given) (position : ℕ) (rows : List Row)
+      (pending : Option (Text × List Text)) (word : Text) (t : ReadingState)
       → settle_passes top.rules false (held rows pending) ≡ true
       → AreRows given (settled_rows top.rules pending rows)
-      → Served top.rules (slot name kind) → NamesOption name word
-      → after_option calm word given (Some (slot name kind)) ≡ Ok t
+      → Served top.rules (field_rule name kind) → NamesOption name word
+      → after_option calm word given (Some (field_rule name kind)) ≡ Ok t
       → (turn_passes top [] (between position rows pending idle) word ≡ true)
-      × Stands top.rules t.stage t.given (walked top.rules [] (between position rows pending idle) word)
-  by_kind name (number least most) given position rows pending word t passes are has names h =
-      valued (slot name (number least most)) given position rows pending word t passes are refl has.long
-      has.id has.name names h
-  by_kind name (choice choices) given position rows pending word t passes are has names h =
-      valued (slot name (choice choices)) given position rows pending word t passes are has.fit has.long
-      has.id has.name names h
-  by_kind name flag given position rows pending word t passes are has names h =
-      flagged (slot name flag) given position rows pending word t passes are has.long has.name names h
+      × Stands top.rules t.next t.given
+      (walked top.rules [] (between position rows pending idle) word)
+  by_kind name (Number least most default) given position rows pending word t passes are has
+      names h =
+      valued (field_rule name (Number least most default)) given position rows pending word t passes
+      are refl has.long has.id has.name names h
+  by_kind name (Choice choices) given position rows pending word t passes are has names h =
+      valued (field_rule name (Choice choices)) given position rows pending word t passes are
+      has.fit has.long has.id has.name names h
+  by_kind name Flag given position rows pending word t passes are has names h =
+      flagged (field_rule name Flag) given position rows pending word t passes are has.long has.name
+      names h
 
   -- one word more
-  step : (stage : Stage) (given : Given) (w : Walk) (word : Text) → Stands top.rules stage given w
+  step : (stage : NextRule) (given : Given) (w : Walk) (word : Text)
+      → Stands top.rules stage given w
       → Steps stage given w word
   step _ _ _ word (at_words (s ∷ left) given position rows pending passes are numbered fresh) t h =
-      let is = kept (value_fault calm s.kind word) _ t h in
+      let is = kept (value_fault calm s.form word) _ t h in
       rw (← is.1) (number_step s left given position rows pending word passes are numbered fresh
-      (plain_value calm s.kind word numbered.2 is.0))
+      (plain_value calm s.form word numbered.2 is.0))
   step _ _ _ word (at_words [] given position rows pending passes are numbered fresh) t h =
       go (option_named rule.options word) refl h
     where
-      go : (o : Option Slot) → option_named rule.options word ≡ o → after_option calm word given o ≡ Ok t
+      go : (o : Option FieldRule) → option_named rule.options word ≡ o
+          → after_option calm word given o ≡ Ok t
           → (turn_passes top [] (between position rows pending idle) word ≡ true)
-          × Stands top.rules t.stage t.given (walked top.rules [] (between position rows pending idle) word)
+          × Stands top.rules t.next t.given
+          (walked top.rules [] (between position rows pending idle) word)
       go None e h = absurd (cc h)
       go (Some s) e h =
           let found = each_found (Served top.rules)
           (λ s. bytes_eq (45 ∷ 45 ∷ s.name) (before_equals word)) rule.options s served e in
-          by_kind s.name s.kind given position rows pending word t passes are found.0
+          by_kind s.name s.form given position rows pending word t passes are found.0
           (names_option s.name word found.1) h
   step _ _ _ word (at_value s given position rows known fit new are) t h =
-      let is = kept (value_fault calm s.kind word) _ t h in
+      let is = kept (value_fault calm s.form word) _ t h in
       rw (← is.1) (value_step s given position rows word known new are
-      (plain_value calm s.kind word fit is.0))
+      (plain_value calm s.form word fit is.0))
 
-  -- the words of a job that are read without a fault are taken, and the walk ends with what was given
+  -- the words of a job that are read without a fault are taken, and the walk ends with what was
+  -- given
   pub accepted : (rest : List Text) (given : Given) → Numbered top.rules 1 rule.numbers
       → read_from rule calm 1 (start_of rule) rest ≡ Ok given
       → (walk_passes top [] (walk_from nothing_held) rest ≡ true)
@@ -409,6 +379,6 @@ module _ (top : Shape) (plain : top.args_override_self ≡ false) (rule : Rule) 
       walks step rest 1 (start_of rule) (walk_from nothing_held) given
       (at_words rule.numbers [] 1 [] None refl tt numbered (all_fresh rule.numbers)) h
     where
-      all_fresh : (left : List Slot) → Fresh [] left
+      all_fresh : (left : List FieldRule) → Fresh [] left
       all_fresh [] = none
       all_fresh (s ∷ left) = more s left refl (all_fresh left)

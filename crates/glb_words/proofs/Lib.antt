@@ -1,6 +1,8 @@
 pub mod TextFacts
 pub mod ClapFacts
+pub mod Standing
 pub mod Accepted
+pub mod Defaults
 pub mod Commands
 pub mod NumberFacts
 pub mod Ranges

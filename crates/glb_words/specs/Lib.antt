@@ -1,5 +1,6 @@
 pub mod Rules
 pub mod Words
-pub mod Forms
-pub mod Commands
 pub mod Settings
+pub mod OrderFaults
+pub mod Commands
+pub mod inner

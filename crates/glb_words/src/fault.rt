@@ -13,8 +13,8 @@ pub enum WordKind {
     Calm,
 }
 
-/// A fault, and the number of its word, counted from 0. Of a word that is missing it is the count of
-/// words.
+/// A fault, and the number of its word, counted from 0. Of a word that is missing it is the count
+/// of words.
 #[derive(Clone, Copy, Debug, PartialEq, Eq)]
 pub struct WordFault {
     pub kind: WordKind,

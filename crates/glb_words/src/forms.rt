@@ -1,79 +1,90 @@
-//! The table of jobs: which numbers, options and flags each takes. The definition of the command words
-//! has the same table.
+//! The table of jobs: which numbers, options and flags each takes, a row for each. The definition
+//! of the command words has the same table.
 
 /// A job, by its name alone.
 #[derive(Clone, Copy, Debug, PartialEq, Eq)]
-pub enum JobName {
+pub(crate) enum JobName {
     Queens,
     Uts,
     Dist,
 }
 
-/// What the text of a value may be: a number from one to another, one of some names, or nothing.
+/// What the text of a value may be: a number from the first to the second, where the third stands
+/// for one that was not given; one of some names; or nothing.
 #[derive(Clone, Copy)]
-pub enum Form {
-    Number(u64, u64),
+pub(crate) enum Form {
+    Number(u64, u64, u64),
     Choice(&'static [&'static str]),
     Flag,
 }
 
 /// A number of a job, an option or a flag. Names are distinct within a job.
 #[derive(Clone, Copy)]
-pub struct Field {
-    pub name: &'static str,
-    pub form: Form,
+pub(crate) struct Field {
+    pub(crate) name: &'static str,
+    pub(crate) form: Form,
 }
 
 /// A job: its numbers in order, and its options.
 #[derive(Clone, Copy)]
-pub struct JobForm {
-    pub job: JobName,
-    pub name: &'static str,
-    pub numbers: &'static [Field],
-    pub options: &'static [Field],
+pub(crate) struct JobForm {
+    pub(crate) job: JobName,
+    pub(crate) name: &'static str,
+    pub(crate) numbers: &'static [Field],
+    pub(crate) options: &'static [Field],
 }
+
+pub(crate) const PLACES: Field = Field {
+    name: "places",
+    form: Form::Number(1, 64, 4),
+};
+
+pub(crate) const BATCH: Field = Field {
+    name: "batch",
+    form: Form::Number(1, 1 << 16, 64),
+};
+
+pub(crate) const TRIES: Field = Field {
+    name: "tries",
+    form: Form::Number(0, 64, 1),
+};
+
+pub(crate) const BASE: Field = Field {
+    name: "base",
+    form: Form::Number(2, 64, 2),
+};
+
+pub(crate) const SEED: Field = Field {
+    name: "seed",
+    form: Form::Number(0, u64::MAX, 0),
+};
+
+pub(crate) const LIMIT: Field = Field {
+    name: "limit",
+    form: Form::Number(1, 1 << 40, 1 << 40),
+};
 
 const DRIVERS: [&'static str; 2] = ["one", "turns"];
 
-const RUN_OPTIONS: [Field; 8] = [
-    Field {
-        name: "places",
-        form: Form::Number(1, 64),
-    },
-    Field {
-        name: "batch",
-        form: Form::Number(1, 65536),
-    },
-    Field {
-        name: "tries",
-        form: Form::Number(0, 64),
-    },
-    Field {
-        name: "base",
-        form: Form::Number(2, 64),
-    },
-    Field {
-        name: "seed",
-        form: Form::Number(0, 18446744073709551615),
-    },
-    Field {
-        name: "limit",
-        form: Form::Number(1, 1099511627776),
-    },
-    Field {
-        name: "driver",
-        form: Form::Choice(&DRIVERS),
-    },
-    Field {
-        name: "stats",
-        form: Form::Flag,
-    },
-];
+pub(crate) const DRIVER: Field = Field {
+    name: "driver",
+    form: Form::Choice(&DRIVERS),
+};
 
-const QUEENS_NUMBERS: [Field; 1] = [Field {
+pub(crate) const STATS: Field = Field {
+    name: "stats",
+    form: Form::Flag,
+};
+
+/// The options of a job that has a tree.
+const RUN_OPTIONS: [Field; 8] = [PLACES, BATCH, TRIES, BASE, SEED, LIMIT, DRIVER, STATS];
+
+pub(crate) const QUEENS_N: Field = Field {
     name: "n",
-    form: Form::Number(1, 16),
-}];
+    form: Form::Number(1, 16, 1),
+};
+
+const QUEENS_NUMBERS: [Field; 1] = [QUEENS_N];
 
 const QUEENS: JobForm = JobForm {
     job: JobName::Queens,
@@ -82,24 +93,27 @@ const QUEENS: JobForm = JobForm {
     options: &RUN_OPTIONS,
 };
 
-const UTS_NUMBERS: [Field; 4] = [
-    Field {
-        name: "b0",
-        form: Form::Number(0, 100000),
-    },
-    Field {
-        name: "m",
-        form: Form::Number(0, 16),
-    },
-    Field {
-        name: "q",
-        form: Form::Number(0, 2147483648),
-    },
-    Field {
-        name: "root_seed",
-        form: Form::Number(0, 4294967295),
-    },
-];
+pub(crate) const UTS_B0: Field = Field {
+    name: "b0",
+    form: Form::Number(0, 100000, 0),
+};
+
+pub(crate) const UTS_M: Field = Field {
+    name: "m",
+    form: Form::Number(0, 16, 0),
+};
+
+pub(crate) const UTS_Q: Field = Field {
+    name: "q",
+    form: Form::Number(0, 1 << 31, 0),
+};
+
+pub(crate) const UTS_SEED: Field = Field {
+    name: "root_seed",
+    form: Form::Number(0, (1 << 32) - 1, 0),
+};
+
+const UTS_NUMBERS: [Field; 4] = [UTS_B0, UTS_M, UTS_Q, UTS_SEED];
 
 const UTS: JobForm = JobForm {
     job: JobName::Uts,
@@ -116,4 +130,4 @@ const DIST: JobForm = JobForm {
 };
 
 /// The jobs that are built.
-pub const JOBS: [JobForm; 3] = [QUEENS, UTS, DIST];
+pub(crate) const JOBS: [JobForm; 3] = [QUEENS, UTS, DIST];

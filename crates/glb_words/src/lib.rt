@@ -1,5 +1,5 @@
-//! The words of the command: which job they name, its numbers and its options, or what is wrong with
-//! them. What is accepted is also parsed by clap, and the values are those of its matches.
+//! The words of the command: which job they name, its numbers and its options, or what is wrong
+//! with them. What is accepted is also parsed by clap, and the values are those of its matches.
 #![tactic(auto)]
 
 mod command;

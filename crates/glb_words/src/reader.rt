@@ -1,31 +1,39 @@
 //! Reads the words of a job, one after the other.
-ghost use Rattle.std.specs.Prelude.{◌≡◌, ◌∷◌, ◌+◌, ◌<◌, ◌≤◌, ◌^◌, ◌↔◌, true, false, length, map, Some, Ok, IfOk, IfErr, IfSome, MatchOption, option_map, find, IsTrue};
+ghost use Rattle.std.specs.Prelude.{◌≡◌, ◌∷◌, ◌+◌, ◌<◌, ◌≤◌, ◌^◌, ◌↔◌, true, false, length, map};
+ghost use Rattle.std.specs.Prelude.{find};
+ghost use Rattle.std.specs.Prelude.{Some, Ok, IfOk, IfErr, IfSome, MatchOption, option_map, IsTrue};
 ghost use Rattle.std.specs.Str.{bytes_eq, all_ascii_digits};
 ghost use Rattle.std.specs.List.{list_any};
-ghost use Rattle.glb_words.specs.Rules.{number};
-ghost use Rattle.glb_words.specs.Words.{value_fault, is_number, number_of, is_given, before_equals, has_equals, after_equals, option_named, keep as kept, after_option, is_flag, next as next_of, at_end, read_from, start_of, texts_of, rule_named, read_words};
-ghost use Rattle.glb_words.specs.Forms.{kind_of, slot_of, rule_of, given_of, stage_of, state_of, StopsBy, IsFaultOf};
+ghost use Rattle.glb_words.specs.Rules.{Text, Number};
+ghost use Rattle.glb_words.specs.Words.{value_fault, is_number, number_of, is_given, is_flag};
+ghost use Rattle.glb_words.specs.Words.{before_equals, option_shown, option_named};
+ghost use Rattle.glb_words.specs.Words.{keep as kept, after_option, after_word, at_end, read_from};
+ghost use Rattle.glb_words.specs.Words.{start_of, texts_of, rule_named, read_words};
+ghost use Rattle.glb_words.specs.OrderFaults.{IsFaultOf};
+ghost use Rattle.glb_words.specs.inner.Forms.{form_rule_of, field_rule_of, rule_of, given_of};
+ghost use Rattle.glb_words.specs.inner.Forms.{next_rule_of, reading_state_of, StopsBy, IsJoined};
 
 use super::fault::{OrderFault, WordFault, WordKind};
 use super::forms::{Field, Form, JOBS, JobForm};
 use std::alloc::Global;
 
-/// What is read next: the numbers that are still to come and then options, or the value of an option.
+/// What is read next: the numbers that are still to come and then options, or the value of an
+/// option.
 #[derive(Clone, Copy)]
-pub enum Next {
+pub(crate) enum Next {
     Words(&'static [Field]),
     Value(Field),
 }
 
 /// What was read so far.
 #[derive(Drop)]
-pub struct Reading<'a> {
-    pub next: Next,
-    pub given: Vec<(&'static str, &'a str)>,
+pub(crate) struct Reading<'a> {
+    pub(crate) next: Next,
+    pub(crate) given: Vec<(&'static str, &'a str)>,
 }
 
 /// Why a word was not read.
-pub enum Stop {
+pub(crate) enum Stop {
     Bad(WordKind),
     NoMemory,
 }
@@ -43,7 +51,7 @@ fn are_digits(bytes: &[u8]) -> bool
 }
 
 /// The text has the form of a number.
-pub fn has_number_form(text: &str) -> bool
+pub(crate) fn has_number_form(text: &str) -> bool
     ensures { result ≡ is_number text.now }
 {
     if !are_digits(text.as_bytes()) {
@@ -54,7 +62,7 @@ pub fn has_number_form(text: &str) -> bool
 }
 
 /// The number, where it fits.
-pub fn number_in(text: &str) -> Option<u64>
+pub(crate) fn number_in(text: &str) -> Option<u64>
     requires { all_ascii_digits text.now ≡ true }
     ensures { MatchOption result (0 < length text.now
         → 2 ^ 64 ≤ number_of text.now) (λ n. n ≡ number_of text.now) }
@@ -65,8 +73,9 @@ pub fn number_in(text: &str) -> Option<u64>
     }
 }
 
-pub fn number_fault(least: u64, most: u64, text: &str) -> Option<WordKind>
-    ensures { result ≡ value_fault false (number least most) text.now }
+/// What is wrong with a number.
+pub(crate) fn number_fault(least: u64, most: u64, text: &str) -> Option<WordKind>
+    ensures { result ≡ value_fault false (Number least most 0) text.now }
 {
     if !has_number_form(text) {
         return Some(WordKind::NotNumber);
@@ -83,6 +92,7 @@ pub fn number_fault(least: u64, most: u64, text: &str) -> Option<WordKind>
     }
 }
 
+/// The text is one of the names.
 fn is_one_of(names: &[&str], text: &str) -> bool
     ensures { result ≡ list_any (λ name. bytes_eq name text.now) (map (λ n. n.now) names.now) }
 {
@@ -96,10 +106,10 @@ fn is_one_of(names: &[&str], text: &str) -> bool
 
 /// What is wrong with a value.
 fn fault_in(form: Form, calm: bool, text: &str) -> Option<WordKind>
-    ensures { result ≡ value_fault calm (kind_of form) text.now }
+    ensures { result ≡ value_fault calm (form_rule_of form) text.now }
 {
     match form {
-        Form::Number(least, most) => number_fault(least, most, text),
+        Form::Number(least, most, _) => number_fault(least, most, text),
         Form::Choice(names) => {
             if !is_one_of(names, text) {
                 Some(WordKind::BadChoice)
@@ -113,6 +123,7 @@ fn fault_in(form: Form, calm: bool, text: &str) -> Option<WordKind>
     }
 }
 
+/// The name was given.
 fn was_given(name: &str, given: &[(&'static str, &str)]) -> bool
     ensures { result ≡ is_given name.now (given_of given.now) }
 {
@@ -124,24 +135,14 @@ fn was_given(name: &str, given: &[(&'static str, &str)]) -> bool
     false
 }
 
-/// The name that a word shows: what stands before the first `=`.
-fn name_shown(word: &str) -> &str
-    ensures { result.now ≡ before_equals word.now }
+/// The name that a word shows, which stands before the first `=`, and the value behind it.
+fn split_word(word: &str) -> (&str, Option<&str>)
+    ensures name { result.0.now ≡ before_equals word.now }
+    ensures value { IsJoined result.1 word.now }
 {
     match word.split_once('=') {
-        Some((name, _)) => name,
-        None => word,
-    }
-}
-
-/// The value that is joined to a name.
-fn value_joined(word: &str) -> Option<&str>
-    ensures { MatchOption result (has_equals word.now ≡ false) (λ v. (has_equals word.now ≡ true) × (v.now
-        ≡ after_equals word.now)) }
-{
-    match word.split_once('=') {
-        Some((_, value)) => Some(value),
-        None => None,
+        Some((name, value)) => (name, Some(value)),
+        None => (word, None),
     }
 }
 
@@ -155,10 +156,11 @@ fn is_dashed(name: &str, shown: &str) -> bool
     }
 }
 
-fn option_for(options: &'static [Field], word: &str) -> Option<Field>
-    ensures { option_map slot_of result ≡ option_named (map slot_of options.now) word.now }
+/// The option whose name is shown.
+fn option_for(options: &'static [Field], shown: &str) -> Option<Field>
+    ensures { option_map field_rule_of result
+        ≡ option_shown (map field_rule_of options.now) shown.now }
 {
-    let shown = name_shown(word);
     for field in options {
         if is_dashed(field.name, shown) {
             return Some(*field);
@@ -177,11 +179,11 @@ impl<'a> Reading<'a> {
         left: &'static [Field],
     ) -> Result<Reading<'a>, Stop>
         ensures ok { IfOk result (λ r.
-            kept calm (slot_of field) text.entry.now (given_of self.entry.given.items)
-            (map slot_of left.entry.now) ≡ Ok (state_of r)) }
+            kept calm (field_rule_of field) text.entry.now (given_of self.entry.given.items)
+            (map field_rule_of left.entry.now) ≡ Ok (reading_state_of r)) }
         ensures err { IfErr result (λ e.
-            StopsBy (kept calm (slot_of field) text.entry.now (given_of self.entry.given.items)
-            (map slot_of left.entry.now)) e) }
+            StopsBy (kept calm (field_rule_of field) text.entry.now
+            (given_of self.entry.given.items) (map field_rule_of left.entry.now)) e) }
     {
         if let Some(kind) = fault_in(field.form, calm, text) {
             return Err(Stop::Bad(kind));
@@ -203,33 +205,33 @@ fn option_word<'a>(
 ) -> Result<Reading<'a>, Stop>
     ensures ok { IfOk result (λ r.
         after_option calm word.entry.now (given_of reading.entry.given.items)
-        (option_named (map slot_of options.entry.now) word.entry.now) ≡ Ok (state_of r)) }
+        (option_named (map field_rule_of options.entry.now) word.entry.now)
+        ≡ Ok (reading_state_of r)) }
     ensures err { IfErr result (λ e.
         StopsBy (after_option calm word.entry.now (given_of reading.entry.given.items)
-        (option_named (map slot_of options.entry.now) word.entry.now)) e) }
+        (option_named (map field_rule_of options.entry.now) word.entry.now)) e) }
 {
-    let field = match option_for(options, word) {
-        Some(field) => field,
-        None => return Err(Stop::Bad(WordKind::UnknownOption)),
-    };
-    known_option(field, calm, reading, word)
+    let (shown, value) = split_word(word);
+    match option_for(options, shown) {
+        Some(field) => known_option(field, calm, reading, value),
+        None => Err(Stop::Bad(WordKind::UnknownOption)),
+    }
 }
 
-/// A word that names this option.
+/// A word that names this option, and the value that is joined to it.
 fn known_option<'a>(
     field: Field,
     calm: bool,
     reading: Reading<'a>,
-    word: &'a str,
+    value: Option<&'a str>,
 ) -> Result<Reading<'a>, Stop>
-    ensures ok { IfOk result (λ r.
-        after_option calm word.entry.now (given_of reading.entry.given.items) (Some (slot_of field))
-        ≡ Ok (state_of r)) }
-    ensures err { IfErr result (λ e.
-        StopsBy (after_option calm word.entry.now (given_of reading.entry.given.items)
-        (Some (slot_of field))) e) }
+    ensures ok { (word : Text) → IsJoined value.entry word → IfOk result (λ r.
+        after_option calm word (given_of reading.entry.given.items) (Some (field_rule_of field))
+        ≡ Ok (reading_state_of r)) }
+    ensures err { (word : Text) → IsJoined value.entry word → IfErr result (λ e.
+        StopsBy (after_option calm word (given_of reading.entry.given.items)
+        (Some (field_rule_of field))) e) }
 {
-    let value = value_joined(word);
     let flag = is_flag_form(field.form);
     if flag && value.is_some() {
         return Err(Stop::Bad(WordKind::UnknownOption));
@@ -249,13 +251,11 @@ fn known_option<'a>(
     }
 }
 
+/// The form is that of a flag.
 fn is_flag_form(form: Form) -> bool
-    ensures { result ≡ is_flag (kind_of form) }
+    ensures { result ≡ is_flag (form_rule_of form) }
 {
-    match form {
-        Form::Flag => true,
-        _ => false,
-    }
+    matches!(form, Form::Flag)
 }
 
 /// One more word.
@@ -266,10 +266,10 @@ fn read_word<'a>(
     word: &'a str,
 ) -> Result<Reading<'a>, Stop>
     ensures ok { IfOk result (λ r.
-        next_of (rule_of form) calm (stage_of reading.entry.next) (given_of reading.entry.given.items)
-        word.entry.now ≡ Ok (state_of r)) }
+        after_word (rule_of form) calm (next_rule_of reading.entry.next)
+        (given_of reading.entry.given.items) word.entry.now ≡ Ok (reading_state_of r)) }
     ensures err { IfErr result (λ e.
-        StopsBy (next_of (rule_of form) calm (stage_of reading.entry.next)
+        StopsBy (after_word (rule_of form) calm (next_rule_of reading.entry.next)
         (given_of reading.entry.given.items) word.entry.now) e) }
 {
     match reading.next {
@@ -284,10 +284,11 @@ fn read_word<'a>(
 /// The words end.
 fn at_last<'a>(reading: Reading<'a>, count: u32) -> Result<Vec<(&'static str, &'a str)>, OrderFault>
     ensures ok { IfOk result (λ v.
-        at_end count (stage_of reading.entry.next) (given_of reading.entry.given.items)
+        at_end count (next_rule_of reading.entry.next) (given_of reading.entry.given.items)
         ≡ Ok (given_of v.items)) }
     ensures err { IfErr result (λ e.
-        IsFaultOf (at_end count (stage_of reading.entry.next) (given_of reading.entry.given.items)) e) }
+        IsFaultOf (at_end count (next_rule_of reading.entry.next)
+        (given_of reading.entry.given.items)) e) }
 {
     let missing = WordFault {
         kind: WordKind::Missing,
@@ -315,7 +316,8 @@ fn read_rest<'a>(
         read_from (rule_of form) calm 1 (start_of (rule_of form)) (texts_of rest.now)
         ≡ Ok (given_of v.items)) }
     ensures err { IfErr result (λ e.
-        IsFaultOf (read_from (rule_of form) calm 1 (start_of (rule_of form)) (texts_of rest.now)) e) }
+        IsFaultOf (read_from (rule_of form) calm 1 (start_of (rule_of form))
+        (texts_of rest.now)) e) }
 {
     let mut reading = Reading {
         next: Next::Words(form.numbers),
@@ -342,7 +344,8 @@ fn job_for(word: &str) -> Option<JobForm>
 
 /// The first form of this name.
 fn form_for(forms: &[JobForm], word: &str) -> Option<JobForm>
-    ensures { option_map rule_of result ≡ find (λ r. bytes_eq r.name word.now) (map rule_of forms.now) }
+    ensures { option_map rule_of result
+        ≡ find (λ r. bytes_eq r.name word.now) (map rule_of forms.now) }
 {
     for form in forms {
         if form.name == word {
@@ -354,13 +357,13 @@ fn form_for(forms: &[JobForm], word: &str) -> Option<JobForm>
 
 /// What words give: the job's form, and the values by their names.
 #[derive(Drop)]
-pub struct Values<'a> {
-    pub form: JobForm,
-    pub given: Vec<(&'static str, &'a str)>,
+pub(crate) struct Values<'a> {
+    pub(crate) form: JobForm,
+    pub(crate) given: Vec<(&'static str, &'a str)>,
 }
 
 /// Reads all words.
-pub fn read_values<'a>(
+pub(crate) fn read_values<'a>(
     alloc: Global,
     words: &'a [String],
     calm: bool,

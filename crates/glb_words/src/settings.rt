@@ -1,13 +1,22 @@
 //! What the words ask for. The values are those of the matches of the job's clap command.
-ghost use Rattle.std.specs.Prelude.{◌≡◌, ◌<◌, ◌≤◌, ◌^◌, length, Ok, Err, IfOk, IfErr, codes};
+ghost use Rattle.std.specs.Prelude.{◌≡◌, ◌<◌, ◌≤◌, ◌^◌, length, Ok, Err, IfOk, IfErr};
 ghost use Rattle.clap.specs.Words.{first_value, found_of};
+ghost use Rattle.glb_words.specs.Rules.{driver_rule, numbers_of};
 ghost use Rattle.glb_words.specs.Words.{texts_of};
-ghost use Rattle.glb_words.specs.Forms.{IsFaultOf};
-ghost use Rattle.glb_words.specs.Settings.{number_or, driver_or_one, is_on, job_by, settings_by, read_settings as settings_read, IsWithin, NumbersFit, ValuesFit, JobFits, SettingsFit};
+ghost use Rattle.glb_words.specs.OrderFaults.{IsFaultOf};
+ghost use Rattle.glb_words.specs.Settings.{number_by, default_of, most_of, driver_or_one, is_on};
+ghost use Rattle.glb_words.specs.Settings.{job_by, settings_by, IsIn, JobFits, SettingsFit};
+ghost use Rattle.glb_words.specs.Settings.{read_settings as settings_read};
+ghost use Rattle.glb_words.specs.Commands.{IsFromClap};
+ghost use Rattle.glb_words.specs.inner.Forms.{form_rule_of, field_rule_of};
+ghost use Rattle.glb_words.specs.inner.Ranges.{ValueFits, AllFit, ValuesFit};
 
-use super::command::parse_read;
+use super::command::parse;
 use super::fault::OrderFault;
-use super::forms::JobName;
+use super::forms::{
+    BASE, BATCH, DRIVER, Field, Form, JobName, LIMIT, PLACES, QUEENS_N, SEED, STATS, TRIES, UTS_B0,
+    UTS_M, UTS_Q, UTS_SEED,
+};
 use super::reader::{number_in, read_values};
 use clap::ArgMatches;
 use std::alloc::Global;
@@ -17,8 +26,8 @@ use std::alloc::Global;
 pub enum Job {
     /// Placements of `n` queens.
     Queens { n: u32 },
-    /// A binomial tree: `b0` children of the root, `m` or none of every other node, `m` with probability
-    /// `q` / 2^31.
+    /// A binomial tree: `b0` children of the root, `m` or none of every other node, `m` with
+    /// probability `q` / 2^31.
     Uts { b0: u32, m: u32, q: u32, seed: u32 },
     /// Distances in the graph that the source gives.
     Dist,
@@ -47,14 +56,18 @@ pub struct Settings {
     pub stats: bool,
 }
 
-/// The number of a value, or its default.
-fn number_of(matches: &ArgMatches<'_>, name: &'static str, range: (u64, u64), default: u64) -> u64
-    requires value { IsWithin range.0 range.1 (first_value (found_of matches.now) name.now) }
-    requires default { (range.0 ≤ default) × (default ≤ range.1) }
-    ensures number { result ≡ number_or default (first_value (found_of matches.now) name.now) }
-    ensures within { (range.0 ≤ result) × (result ≤ range.1) }
+/// The number of a field, or its default.
+fn number_of(matches: &ArgMatches<'_>, field: Field) -> u64
+    requires value { ValueFits (field_rule_of field) (first_value (found_of matches.now)) }
+    requires default { IsIn (field_rule_of field) (default_of (form_rule_of field.form)) }
+    ensures number { result ≡ number_by (field_rule_of field) (first_value (found_of matches.now)) }
+    ensures within { IsIn (field_rule_of field) result }
 {
-    match matches.get_str(name) {
+    let default = match field.form {
+        Form::Number(_, _, default) => default,
+        _ => 0,
+    };
+    match matches.get_str(field.name) {
         Some(text) => match number_in(text) {
             Some(n) => n,
             None => default,
@@ -64,44 +77,51 @@ fn number_of(matches: &ArgMatches<'_>, name: &'static str, range: (u64, u64), de
 }
 
 /// The same, of a range below 2^32.
-fn small_number_of(
-    matches: &ArgMatches<'_>,
-    name: &'static str,
-    range: (u64, u64),
-    default: u64,
-) -> u32
-    requires value { IsWithin range.0 range.1 (first_value (found_of matches.now) name.now) }
-    requires default { (range.0 ≤ default) × (default ≤ range.1) }
-    requires small { range.1 < 2 ^ 32 }
-    ensures number { result ≡ number_or default (first_value (found_of matches.now) name.now) }
-    ensures within { (range.0 ≤ result) × (result ≤ range.1) }
+fn small_number_of(matches: &ArgMatches<'_>, field: Field) -> u32
+    requires value { ValueFits (field_rule_of field) (first_value (found_of matches.now)) }
+    requires default { IsIn (field_rule_of field) (default_of (form_rule_of field.form)) }
+    requires small { most_of (form_rule_of field.form) < 2 ^ 32 }
+    ensures number { result ≡ number_by (field_rule_of field) (first_value (found_of matches.now)) }
+    ensures within { IsIn (field_rule_of field) result }
 {
-    number_of(matches, name, range, default) as u32
+    number_of(matches, field) as u32
 }
 
+/// The flag was given.
+fn flag_of(matches: &ArgMatches<'_>, field: Field) -> bool
+    ensures { result ≡ is_on (first_value (found_of matches.now) field.name.now) }
+{
+    match matches.get_str(field.name) {
+        Some(text) => text == "true",
+        None => false,
+    }
+}
+
+/// The job with its numbers.
 fn job_of(job: JobName, matches: &ArgMatches<'_>) -> Job
-    requires { NumbersFit job (first_value (found_of matches.now)) }
+    requires { AllFit (numbers_of job) (first_value (found_of matches.now)) }
     ensures job { result ≡ job_by job (first_value (found_of matches.now)) }
     ensures fits { JobFits result }
 {
     match job {
         JobName::Queens => Job::Queens {
-            n: small_number_of(matches, "n", (1, 16), 1),
+            n: small_number_of(matches, QUEENS_N),
         },
         JobName::Uts => Job::Uts {
-            b0: small_number_of(matches, "b0", (0, 100000), 0),
-            m: small_number_of(matches, "m", (0, 16), 0),
-            q: small_number_of(matches, "q", (0, 2147483648), 0),
-            seed: small_number_of(matches, "root_seed", (0, 4294967295), 0),
+            b0: small_number_of(matches, UTS_B0),
+            m: small_number_of(matches, UTS_M),
+            q: small_number_of(matches, UTS_Q),
+            seed: small_number_of(matches, UTS_SEED),
         },
         JobName::Dist => Job::Dist,
     }
 }
 
+/// The driver, or that of one bag.
 fn driver_of(matches: &ArgMatches<'_>) -> Driver
-    ensures { result ≡ driver_or_one (first_value (found_of matches.now) (codes "driver")) }
+    ensures { result ≡ driver_or_one (first_value (found_of matches.now) driver_rule.name) }
 {
-    match matches.get_str("driver") {
+    match matches.get_str(DRIVER.name) {
         Some(text) => {
             if text == "turns" {
                 Driver::Turns
@@ -113,15 +133,7 @@ fn driver_of(matches: &ArgMatches<'_>) -> Driver
     }
 }
 
-fn stats_of(matches: &ArgMatches<'_>) -> bool
-    ensures { result ≡ is_on (first_value (found_of matches.now) (codes "stats")) }
-{
-    match matches.get_str("stats") {
-        Some(text) => text == "true",
-        None => false,
-    }
-}
-
+/// The settings of matches whose numbers are in their ranges.
 fn settings_of(job: JobName, matches: &ArgMatches<'_>) -> Settings
     requires { ValuesFit job (first_value (found_of matches.now)) }
     ensures settings { result ≡ settings_by job (first_value (found_of matches.now)) }
@@ -129,27 +141,28 @@ fn settings_of(job: JobName, matches: &ArgMatches<'_>) -> Settings
 {
     Settings {
         job: job_of(job, matches),
-        places: small_number_of(matches, "places", (1, 64), 4),
-        batch: number_of(matches, "batch", (1, 65536), 64),
-        tries: small_number_of(matches, "tries", (0, 64), 1),
-        base: small_number_of(matches, "base", (2, 64), 2),
-        seed: number_of(matches, "seed", (0, 18446744073709551615), 0),
-        limit: number_of(matches, "limit", (1, 1099511627776), 1099511627776),
+        places: small_number_of(matches, PLACES),
+        batch: number_of(matches, BATCH),
+        tries: small_number_of(matches, TRIES),
+        base: small_number_of(matches, BASE),
+        seed: number_of(matches, SEED),
+        limit: number_of(matches, LIMIT),
         driver: driver_of(matches),
-        stats: stats_of(matches),
+        stats: flag_of(matches, STATS),
     }
 }
 
-/// Reads the words. Words without a fault are words that the job's clap command takes, and the settings
-/// have the values of its matches.
+/// Reads the words. Words without a fault are words that the job's clap command takes, and the
+/// settings have the values of its matches.
 pub fn read_settings(alloc: Global, words: &[String], calm: bool) -> Result<Settings, OrderFault>
     requires { length words.now < 2 ^ 32 }
     ensures ok { IfOk result (λ s. settings_read calm (texts_of words.now) ≡ Ok s) }
     ensures fit { IfOk result SettingsFit }
+    ensures clap { IfOk result (IsFromClap calm (texts_of words.now)) }
     ensures fault { IfErr result (IsFaultOf (settings_read calm (texts_of words.now))) }
 {
     let values = read_values(alloc, words, calm)?;
-    let matches = match parse_read(alloc, values.form, words) {
+    let matches = match parse(alloc, values.form, words) {
         Ok(matches) => matches,
         Err(_) => return Err(OrderFault::NoMemory),
     };

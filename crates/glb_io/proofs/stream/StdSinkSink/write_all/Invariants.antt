@@ -7,7 +7,8 @@ abbrev pub invariant-loop-done : goal.invariant-loop-done
 invariant-loop-done g l = record {
   within : l.done ≤ length l.piece;
   few : l.tries ≤ 1000;
-  given : Gives (told g.W.Write.contents l.fn.self.silent l.fn.self.inner) (told g.W.Write.contents l.self.silent l.self.inner) (take l.done l.piece);
+  given : Gives (told g.W.Write.contents l.fn.self.silent l.fn.self.inner)
+      (told g.W.Write.contents l.self.silent l.self.inner) (take l.done l.piece);
   later : l.self.faults ≡ l.fn.self.faults;
 }
 
