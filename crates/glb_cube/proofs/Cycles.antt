@@ -1,6 +1,7 @@
 -- The places that differ in one digit alone, and the lines between them.
 use Rattle.std.specs.Prelude.{Option, Some, None}
-use Rattle.std.proofs.Common.{◌≡◌, inl, inr, ℕ, zero, suc, ◌+◌, ◌-◌, ◌*◌, ◌/◌, ◌%◌, ◌<◌, ◌≤◌, refl, ap, sym, ◌∙◌, arith, rules}
+use Rattle.std.proofs.Common.{◌≡◌, inl, inr, ℕ, zero, suc, ◌+◌, ◌-◌, ◌*◌, ◌/◌, ◌%◌, ◌<◌, ◌≤◌, refl}
+use Rattle.std.proofs.Common.{ap, sym, ◌∙◌, arith, rules}
 use Rattle.std.proofs.lemmas.Bool.{lt-ltb, le-ltb, cond-true, cond-false, cases_lt}
 use Rattle.std.proofs.lemmas.Nat.{div-mul-add, mod-mul-add}
 use Rattle.glb_cube.specs.Digits.{digit, successor, first_below, target}
@@ -34,7 +35,8 @@ unfolding first_below
 first_yes places base unit p t below = cond-true _ _ _ (lt-ltb (successor base unit p) places below)
 
 first_no : (places base unit p t : ℕ) → places ≤ successor base unit p
-    → first_below places base unit p (suc t) ≡ first_below places base unit (successor base unit p) t
+    → first_below places base unit p (suc t)
+    ≡ first_below places base unit (successor base unit p) t
 unfolding first_below
 first_no places base unit p t above = cond-false _ _ _ (le-ltb (successor base unit p) places above)
 
@@ -72,7 +74,8 @@ nothing places base unit k r (suc t) d small above =
 
 -- to the next digit, where there is one below `places`
 pub target_up : (places base unit k d : ℕ) → IsCycle base unit k → d + 1 < base
-    → k + unit * (d + 1) < places → target places base unit (k + unit * d) ≡ Some (k + unit * (d + 1))
+    → k + unit * (d + 1) < places → target places base unit (k + unit * d)
+    ≡ Some (k + unit * (d + 1))
 target_up places base unit k d r small below =
     let up : successor base unit (k + unit * d) ≡ k + unit * (d + 1) = successor_up base unit k d r small in
     let more : base - 1 ≡ suc (base - 2) = omega arith in
@@ -97,7 +100,8 @@ number_in (Some q) = q
 pub some_same : (p q : ℕ) → Some p ≡ Some q → p ≡ q
 some_same p q e = ap number_in e
 
-first_small : (places base unit : ℕ) (t p q : ℕ) → first_below places base unit p t ≡ Some q → q < places
+first_small : (places base unit : ℕ) (t p q : ℕ) → first_below places base unit p t ≡ Some q
+    → q < places
 unfolding first_below
 first_small places base unit zero p q e = absurd (search (rules, e))
 first_small places base unit (suc t) p q e = elim (cases_lt (successor base unit p) places) [

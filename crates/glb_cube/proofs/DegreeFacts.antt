@@ -1,12 +1,16 @@
 -- The lines of one place are distinct and few, and so are the lines to one place.
-use Rattle.std.specs.Prelude.{Option, Some, None, List, [], ◌∷◌, ◌++◌, length, Bool, true, false, cond}
-use Rattle.std.proofs.Common.{◌≡◌, ◌⊎◌, inl, inr, ℕ, zero, suc, ◌+◌, ◌-◌, ◌*◌, ◌/◌, ◌%◌, ◌<◌, ◌≤◌, refl, ap, sym, ◌∙◌, subst, arith, rules}
-use Rattle.std.proofs.lemmas.Bool.{eq-eqb, ne_eqb, cond-true, cond-false, cases_lt, cases_eq, cases_Bool, cases_order, true≢false}
+use Rattle.std.specs.Prelude.{Option, Some, None, List, [], ◌∷◌, ◌++◌, length, Bool, true, false}
+use Rattle.std.specs.Prelude.{cond}
+use Rattle.std.proofs.Common.{◌≡◌, ◌⊎◌, inl, inr, ℕ, zero, suc, ◌+◌, ◌-◌, ◌*◌, ◌/◌, ◌%◌, ◌<◌, ◌≤◌}
+use Rattle.std.proofs.Common.{refl, ap, sym, ◌∙◌, subst, arith, rules}
+use Rattle.std.proofs.lemmas.Bool.{eq-eqb, ne_eqb, cond-true, cond-false, cases_lt, cases_eq}
+use Rattle.std.proofs.lemmas.Bool.{cases_Bool, cases_order, true≢false}
 use Rattle.std.proofs.lemmas.Nat.{div-mul-add, mod-mul-add, div-add-mod', mod_below}
 use Rattle.std.proofs.Math.Nat.{mul-le-mul_left}
 use Rattle.glb_cube.specs.Digits.{digit, target, targets, one_of}
-use Rattle.glb_cube.specs.Lines.{has_number, IsDistinct, count_to}
-use Rattle.glb_cube.proofs.Cycles.{IsCycle, cycle, target_up, target_over, target_none, target_small, some_same}
+use Rattle.glb_laws.specs.Numbers.{has_number, IsDistinct, count_to}
+use Rattle.glb_cube.proofs.Cycles.{IsCycle, cycle, target_up, target_over, target_none}
+use Rattle.glb_cube.proofs.Cycles.{target_small, some_same}
 use Rattle.glb_cube.proofs.WayFacts.{targets_more, targets_none}
 
 -- the place with the digit 0 in a place's cycle
@@ -54,7 +58,8 @@ leads_over places base unit k (suc d) q r two small below e above = Over (omega 
     (sym (some_same _ q
     (sym (target_over places base unit k (suc d) r (omega arith) small (omega arith) above) ∙ e)))
 
-leads : (places base unit k d q : ℕ) → IsCycle base unit k → 2 ≤ base → d < base → k + unit * d < places
+leads : (places base unit k d q : ℕ) → IsCycle base unit k → 2 ≤ base → d < base
+    → k + unit * d < places
     → target places base unit (k + unit * d) ≡ Some q → Leads places base unit k d q
 leads places base unit k d q r two small below e = elim (cases_lt (d + 1) base) [
   | inl more ↦ elim (cases_lt (k + unit * (d + 1)) places) [
@@ -66,7 +71,8 @@ leads places base unit k d q r two small below e = elim (cases_lt (d + 1) base) 
 
 -- the same for any place
 leads_of : (places base unit p q : ℕ) → 2 ≤ base → 0 < unit → p < places
-    → target places base unit p ≡ Some q → Leads places base unit (foot base unit p) (digit base unit p) q
+    → target places base unit p ≡ Some q
+    → Leads places base unit (foot base unit p) (digit base unit p) q
 leads_of places base unit p q two some below e =
     leads places base unit (foot base unit p) (digit base unit p) q
     (cycle base unit (p % unit) (p / unit / base) (mod_below p unit some)) two
@@ -111,7 +117,8 @@ target_far places base unit p q two some below e =
     (far_by places base unit (foot base unit p) (digit base unit p) q
     (leads_of places base unit p q two some below e))
 
-pub has_append : (q : ℕ) (xs ys : List ℕ) → has_number q (xs ++ ys) ≡ true → (has_number q xs ≡ true)
+pub has_append : (q : ℕ) (xs ys : List ℕ) → has_number q (xs ++ ys) ≡ true
+    → (has_number q xs ≡ true)
     ⊎ (has_number q ys ≡ true)
 has_append q [] ys e = inr e
 has_append q (x ∷ xs) ys e = elim (cases_eq q x) [
@@ -221,7 +228,8 @@ length-targets (suc dimensions) places base unit p = rw (targets_more places bas
     ))
 
 foot_by : (places base unit lo h d q : ℕ) → lo < unit → 0 < base
-    → Leads places base unit (lo + unit * (base * h)) d q → foot base unit q ≡ lo + unit * (base * h)
+    → Leads places base unit (lo + unit * (base * h)) d q → foot base unit q
+    ≡ lo + unit * (base * h)
 foot_by places base unit lo h d q low some (Up more e) = ap (foot base unit) e
     ∙ foot_of base unit lo h (d + 1) low more
 foot_by places base unit lo h d q low some (Over more above e) = ap (foot base unit) e
@@ -273,7 +281,8 @@ count_none zero f h = refl
 count_none (suc n) f h = let b : cond {A = ℕ} (f n) 1 0 ≡ 0 = cond-false _ _ _ (h n (omega arith))
     in omega (arith, b, count_none n f (λ p s. h p (omega arith)))
 
-pub count_one : (n : ℕ) (f : ℕ → Bool) → ((p r : ℕ) → p < n → r < n → f p ≡ true → f r ≡ true → p ≡ r)
+pub count_one : (n : ℕ) (f : ℕ → Bool)
+    → ((p r : ℕ) → p < n → r < n → f p ≡ true → f r ≡ true → p ≡ r)
     → count_to n f ≤ 1
 count_one zero f h = omega arith
 count_one (suc n) f h = elim (cases_Bool (f n)) [
@@ -349,7 +358,8 @@ next_over places base unit p two some below more above =
     (λ m. omega (arith, split, above m))
     ∙ ap Some (omega (arith, split))
 
-pub next_none : (places base unit p : ℕ) → 2 ≤ base → 0 < unit → digit base unit p ≡ 0 → places ≤ p + unit
+pub next_none : (places base unit p : ℕ) → 2 ≤ base → 0 < unit → digit base unit p ≡ 0
+    → places ≤ p + unit
     → target places base unit p ≡ None
 next_none places base unit p two some low above =
     let split : p ≡ foot base unit p + unit * digit base unit p = place_split base unit p in

@@ -1,19 +1,26 @@
 -- The laws of the line graph that callers cite.
 use Rattle.std.specs.Prelude.{List, [], ◌∷◌, ◌++◌, length, Bool, true, false, cond, All, ◌↔◌}
-use Rattle.std.proofs.Common.{◌≡◌, inl, inr, ℕ, zero, suc, ◌+◌, ◌-◌, ◌*◌, ◌^◌, ◌<◌, ◌≤◌, refl, ap, sym, ◌∙◌, subst, arith, length-append}
+use Rattle.std.proofs.Common.{◌≡◌, inl, inr, ℕ, zero, suc, ◌+◌, ◌-◌, ◌*◌, ◌^◌, ◌<◌, ◌≤◌, refl, ap}
+use Rattle.std.proofs.Common.{sym, ◌∙◌, subst, arith, length-append}
 use Rattle.std.proofs.Math.Nat.{div-one}
 use Rattle.std.specs.List.{filter, range_with_len}
 use Rattle.std.specs.List.Sorted.{IsStrictlyIncreasing}
 use Rattle.std.proofs.lemmas.List.{map-id}
 use Rattle.std.proofs.lemmas.List.Elements.{filter-append}
-use Rattle.std.proofs.lemmas.List.FromFn.{length-range_with_len, get_or-range_with_len, map-range_with_len_more}
+use Rattle.std.proofs.lemmas.List.FromFn.{length-range_with_len, get_or-range_with_len}
+use Rattle.std.proofs.lemmas.List.FromFn.{map-range_with_len_more}
 use Rattle.std.proofs.lemmas.List.Kept.{IsStrictlyIncreasing-filter}
-use Rattle.glb_cube.specs.Lines.{has_number, IsDistinct, count_to, Cube, IsCube, IsDimension, cube_of, IsLine, outs_of, ins_below, ins_of}
+use Rattle.glb_laws.specs.Numbers.{has_number, IsDistinct, count_to}
+use Rattle.glb_cube.specs.Lines.{Cube, IsCube, IsDimension, cube_of, IsLine, outs_of, ins_below}
+use Rattle.glb_cube.specs.Lines.{ins_of}
 use Rattle.glb_cube.specs.Ways.{IsWayOf, steps_of, way_of, then_from, descent, ascent}
 use Rattle.glb_cube.specs.GraphLaws.{GraphLaws}
-use Rattle.std.proofs.lemmas.Bool.{eq-eqb, ne_eqb, cond-true, cond-false, cases_eq, cases_lt, cases_Bool, true≢false}
-use Rattle.glb_cube.proofs.DegreeFacts.{targets_small, targets_not_self, targets_distinct, length-targets, count_sources, has_append}
-use Rattle.glb_cube.proofs.WayFacts.{has_append_l, has_append_r, Reaches, IsLowered, IsLined, descent_down, ascent_up, then_from_path, then_from_length}
+use Rattle.std.proofs.lemmas.Bool.{eq-eqb, ne_eqb, cond-true, cond-false, cases_eq, cases_lt}
+use Rattle.std.proofs.lemmas.Bool.{cases_Bool, true≢false}
+use Rattle.glb_cube.proofs.DegreeFacts.{targets_small, targets_not_self, targets_distinct}
+use Rattle.glb_cube.proofs.DegreeFacts.{length-targets, count_sources, has_append}
+use Rattle.glb_cube.proofs.WayFacts.{has_append_l, has_append_r, Reaches, IsLowered, IsLined}
+use Rattle.glb_cube.proofs.WayFacts.{descent_down, ascent_up, then_from_path, then_from_length}
 
 -- the way that is taken is a way, and short
 pub way_reaches : (c : Cube) → IsCube c → (a b : ℕ) → a < c.places → b < c.places
@@ -45,7 +52,8 @@ way_reaches c i a b a_small b_small =
 pub outs_below : (c : Cube) → (p q : ℕ) → has_number q (outs_of c p) ≡ true → q < c.places
 outs_below c p q e = targets_small c.dimension c.places c.base 1 p q e
 
-pub outs_not_self : (c : Cube) → IsCube c → (p : ℕ) → p < c.places → has_number p (outs_of c p) ≡ false
+pub outs_not_self : (c : Cube) → IsCube c → (p : ℕ) → p < c.places → has_number p (outs_of c p)
+    ≡ false
 outs_not_self c i p below = targets_not_self c.dimension c.places c.base 1 p i.base (omega arith) below
 
 pub outs_distinct : (c : Cube) → IsCube c → (p : ℕ) → p < c.places → IsDistinct (outs_of c p)
@@ -156,20 +164,23 @@ later x q xs e = elim (cases_eq q x)
     [ inl same ↦ cond-true _ _ _ (eq-eqb q x same) | inr far ↦ cond-false _ _ _ (ne_eqb q x far) ∙ e ]
 
 -- what holds of each number of a list holds at each index
-pub All-has_number : (P : ℕ → Type 0) (xs : List ℕ) → ((q : ℕ) → has_number q xs ≡ true → P q) → All P xs
+pub All-has_number : (P : ℕ → Type 0) (xs : List ℕ) → ((q : ℕ) → has_number q xs ≡ true → P q)
+    → All P xs
 All-has_number P [] h k d small = absurd (omega arith)
 All-has_number P (x ∷ xs) h zero d small = h x (cond-true _ _ _ (eq-eqb x x refl))
 All-has_number P (x ∷ xs) h (suc k) d small =
     All-has_number P xs (λ q e. h q (later x q xs e)) k d (omega arith)
 
-pub exact_ins : (c : Cube) (q p : ℕ) → (has_number p (ins_of c q) ≡ true) ↔ ((p < c.places) × IsLine c p q)
+pub exact_ins : (c : Cube) (q p : ℕ)
+    → (has_number p (ins_of c q) ≡ true) ↔ ((p < c.places) × IsLine c p q)
 exact_ins c q p = (
   λ e. let l = line_of_in c p q e
       in (l.0, (outs_below c p q l.1, l.1)),
   λ l. in_of_line c p q l.0 l.1.1,
 )
 
-pub cube_holds : (places base dimension : ℕ) → 1 ≤ places → 2 ≤ base → IsDimension places base dimension
+pub cube_holds : (places base dimension : ℕ) → 1 ≤ places → 2 ≤ base
+    → IsDimension places base dimension
     → IsCube (cube_of places base dimension)
 cube_holds places base dimension some two least = record { some = some; base = two; dimension = least }
 

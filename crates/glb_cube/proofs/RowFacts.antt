@@ -3,11 +3,14 @@ use Rattle.std.specs.Prelude.{List, [], ◌∷◌, ◌++◌, length, map, get_or
 use Rattle.std.specs.List.{range_with_len}
 use Rattle.std.proofs.Common.{◌≡◌, ℕ, zero, suc, ◌+◌, ◌<◌, refl, ap, sym, ◌∙◌, arith, append-nil}
 use Rattle.std.proofs.lemmas.List.{map-append, length-map}
-use Rattle.std.proofs.lemmas.List.FromFn.{map-range_with_len_more, length-map-range_with_len, get_or-map-range_with_len}
-use Rattle.glb_cube.specs.Lines.{has_number, Cube, outs_of, ins_below}
+use Rattle.std.proofs.lemmas.List.FromFn.{map-range_with_len_more, length-map-range_with_len}
+use Rattle.std.proofs.lemmas.List.FromFn.{get_or-map-range_with_len}
+use Rattle.glb_laws.specs.Numbers.{has_number}
+use Rattle.glb_cube.specs.Lines.{Cube, outs_of, ins_below}
 use Rattle.glb_cube.proofs.GraphFacts.{ins_more}
 
-pub rows_round : {X : Type 0} (f : ℕ → List ℕ) (g : X → List ℕ) (xs ys : List X) (x : X) (n : ℕ) → ys ≡ xs
+pub rows_round : {X : Type 0} (f : ℕ → List ℕ) (g : X → List ℕ) (xs ys : List X) (x : X) (n : ℕ)
+    → ys ≡ xs
     ++ x ∷ [] → map g xs ≡ map f (range_with_len 0 n) → g x ≡ f n
     → map g ys ≡ map f (range_with_len 0 (n + 1))
 rows_round f g xs ys x n e h r = ap (map g) e ∙ map-append g xs (x ∷ []) ∙ ap (λ l. l ++ g x ∷ []) h

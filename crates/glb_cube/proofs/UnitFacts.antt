@@ -1,6 +1,7 @@
 -- What one round of a loop does.
 use Rattle.std.specs.Prelude.{List, ◌++◌, Option}
-use Rattle.std.proofs.Common.{◌≡◌, inl, inr, ℕ, zero, suc, ◌+◌, ◌-◌, ◌*◌, ◌^◌, ◌<◌, ◌≤◌, refl, ap, sym, ◌∙◌, arith, append_assoc, append-nil}
+use Rattle.std.proofs.Common.{◌≡◌, inl, inr, ℕ, zero, suc, ◌+◌, ◌-◌, ◌*◌, ◌^◌, ◌<◌, ◌≤◌, refl, ap}
+use Rattle.std.proofs.Common.{sym, ◌∙◌, arith, append_assoc, append-nil}
 use Rattle.std.proofs.lemmas.Bool.{cases_lt}
 use Rattle.std.proofs.Math.Nat.{pow-suc, pow-zero, one-le-pow}
 use Rattle.glb_cube.specs.Digits.{target, targets, one_of}
@@ -22,7 +23,8 @@ unit_some base i two = one-le-pow i base (omega arith)
 pub unit_more : (base i j : ℕ) → j ≡ i + 1 → base ^ i * base ≡ base ^ j
 unit_more base i j e = sym (pow-suc base i) ∙ ap (λ x. base ^ x) (let f : suc i ≡ j = omega arith in f)
 
-pub targets_round : (places base unit dimension i j p : ℕ) (out all : List ℕ) → i < dimension → j ≡ i + 1
+pub targets_round : (places base unit dimension i j p : ℕ) (out all : List ℕ) → i < dimension → j
+    ≡ i + 1
     → out ++ targets places base unit (dimension - i) p ≡ all
     → (out ++ one_of (target places base unit p))
     ++ targets places base (unit * base) (dimension - j) p ≡ all

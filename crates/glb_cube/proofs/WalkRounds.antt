@@ -1,10 +1,13 @@
 -- What one round of following a line does.
 use Rattle.std.specs.Prelude.{List, [], ◌∷◌, ◌++◌, Some, None}
-use Rattle.std.proofs.Common.{◌≡◌, ℕ, zero, suc, ◌+◌, ◌-◌, ◌*◌, ◌<◌, ◌≤◌, refl, ap, sym, ◌∙◌, arith, append-nil, append_assoc}
+use Rattle.std.proofs.Common.{◌≡◌, ℕ, zero, suc, ◌+◌, ◌-◌, ◌*◌, ◌<◌, ◌≤◌, refl, ap, sym, ◌∙◌, arith}
+use Rattle.std.proofs.Common.{append-nil, append_assoc}
 use Rattle.std.proofs.lemmas.Bool.{ne_eqb, cond-false}
 use Rattle.glb_cube.specs.Digits.{digit, target}
-use Rattle.glb_cube.specs.Ways.{walk, last_of, with_next, then_from, descent_in, ascent_in, descent, ascent}
-use Rattle.glb_cube.proofs.WayFacts.{walk_there, walk_on, descent_more, descent_none, ascent_more, ascent_none}
+use Rattle.glb_cube.specs.Ways.{walk, last_of, with_next, then_from, descent_in, ascent_in, descent}
+use Rattle.glb_cube.specs.Ways.{ascent}
+use Rattle.glb_cube.proofs.WayFacts.{walk_there, walk_on, descent_more, descent_none, ascent_more}
+use Rattle.glb_cube.proofs.WayFacts.{ascent_none}
 
 walk_stuck : (places base unit goal p most : ℕ) → (digit base unit p ≡ goal → ⊥)
     → target places base unit p ≡ None → walk places base unit goal p (suc most) ≡ []
@@ -32,7 +35,8 @@ pub on_at : (places base unit goal p i q : ℕ) → i < base → (digit base uni
 on_at places base unit goal p i q less far e = let more : base - i ≡ suc (base - (i + 1)) = omega arith
     in ap (walk places base unit goal p) more ∙ walk_on places base unit goal p _ q far e
 
-pub end_at : (places base unit goal p i : ℕ) → base ≤ i → walk places base unit goal p (base - i) ≡ []
+pub end_at : (places base unit goal p i : ℕ) → base ≤ i → walk places base unit goal p (base - i)
+    ≡ []
 end_at places base unit goal p i over = let none : base - i ≡ zero = omega arith
     in ap (walk places base unit goal p) none ∙ walk_zero places base unit goal p
 
@@ -47,7 +51,8 @@ pub on_out : (rest next out new all : List ℕ) (q : ℕ) → rest ≡ q ∷ nex
 on_out rest next out new all q e f h = ap (λ x. x ++ next) f ∙ append_assoc out (q ∷ []) next
     ∙ ap (λ x. out ++ x) (sym e) ∙ h
 
-pub on_last : (rest next : List ℕ) (p q l : ℕ) → rest ≡ q ∷ next → last_of p rest ≡ l → last_of q next ≡ l
+pub on_last : (rest next : List ℕ) (p q l : ℕ) → rest ≡ q ∷ next → last_of p rest ≡ l
+    → last_of q next ≡ l
 on_last rest next p q l e h = ap (last_of p) (sym e) ∙ h
 
 -- a part and what follows from its last place
@@ -56,7 +61,8 @@ last_append p [] ys = refl
 last_append p (x ∷ xs) ys = last_append x xs ys
 
 pub part_out : (p q : ℕ) (part rest out new all : List ℕ) (next : ℕ → List ℕ)
-    → rest ≡ then_from p part next → new ≡ out ++ part → q ≡ last_of p part → out ++ rest ≡ all → new
+    → rest ≡ then_from p part next → new ≡ out ++ part → q ≡ last_of p part → out ++ rest ≡ all
+    → new
     ++ next q ≡ all
 part_out p q part rest out new all next e f g h =
     rw f (rw g (append_assoc out part (next (last_of p part)) ∙ ap (λ x. out ++ x) (sym e) ∙ h))

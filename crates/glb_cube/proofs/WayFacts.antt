@@ -1,12 +1,16 @@
 -- The ways reach their ends and are short.
 use Rattle.std.specs.Prelude.{Some, List, [], ◌∷◌, ◌++◌, length, true, cond, ltb}
-use Rattle.std.proofs.Common.{◌≡◌, inl, inr, ℕ, zero, suc, ◌+◌, ◌-◌, ◌*◌, ◌/◌, ◌%◌, ◌^◌, ◌<◌, ◌≤◌, refl, ap, sym, ◌∙◌, subst, arith, rules, length-append}
-use Rattle.std.proofs.lemmas.Bool.{lt-ltb, le-ltb, eq-eqb, ne_eqb, cond-true, cond-false, cases_lt, cases_eq}
+use Rattle.std.proofs.Common.{◌≡◌, inl, inr, ℕ, zero, suc, ◌+◌, ◌-◌, ◌*◌, ◌/◌, ◌%◌, ◌^◌, ◌<◌, ◌≤◌}
+use Rattle.std.proofs.Common.{refl, ap, sym, ◌∙◌, subst, arith, rules, length-append}
+use Rattle.std.proofs.lemmas.Bool.{lt-ltb, le-ltb, eq-eqb, ne_eqb, cond-true, cond-false, cases_lt}
+use Rattle.std.proofs.lemmas.Bool.{cases_eq}
 use Rattle.std.proofs.lemmas.Nat.{div-mul-add, mod-mul-add, div-add-mod', mod_below, div_below}
 use Rattle.std.proofs.Math.Nat.{div-div-eq-div-mul, mul-le-mul_left, pow-suc, pow-zero}
 use Rattle.glb_cube.specs.Digits.{digit, target, targets, one_of}
-use Rattle.glb_cube.specs.Lines.{has_number}
-use Rattle.glb_cube.specs.Ways.{IsPath, last_of, with_next, walk, then_from, descent_in, ascent_in, descent, ascent}
+use Rattle.glb_laws.specs.Numbers.{has_number}
+use Rattle.glb_laws.specs.Numbers.{IsPath}
+use Rattle.glb_cube.specs.Ways.{last_of, with_next, walk, then_from, descent_in, ascent_in, descent}
+use Rattle.glb_cube.specs.Ways.{ascent}
 use Rattle.glb_cube.proofs.Cycles.{IsCycle, cycle, target_up, target_over, target_small}
 
 -- a path over `part` to q, with at most n members
@@ -18,7 +22,8 @@ pub record Reaches (Line : ℕ → ℕ → Type 0) (p : ℕ) (part : List ℕ) (
 abbrev pub Joins : ℕ → ℕ → ℕ → ℕ → ℕ → Type 0
 Joins places base unit p q = (q < places) × (target places base unit p ≡ Some q)
 
-pub path_last : (Line : ℕ → ℕ → Type 0) (a b : ℕ) (ps : List ℕ) → IsPath Line a ps b → last_of a ps ≡ b
+pub path_last : (Line : ℕ → ℕ → Type 0) (a b : ℕ) (ps : List ℕ) → IsPath Line a ps b
+    → last_of a ps ≡ b
 path_last Line a b [] e = e
 path_last Line a b (p ∷ ps) e = path_last Line p b ps e.1
 
@@ -117,7 +122,8 @@ abbrev pub IsLined : (ℕ → ℕ → Type 0) → ℕ → ℕ → ℕ → ℕ �
 IsLined Line places base unit dimensions = (p q : ℕ) → q < places
     → has_number q (targets places base unit dimensions p) ≡ true → Line p q
 
-pub has_append_l : (q : ℕ) (xs ys : List ℕ) → has_number q xs ≡ true → has_number q (xs ++ ys) ≡ true
+pub has_append_l : (q : ℕ) (xs ys : List ℕ) → has_number q xs ≡ true → has_number q (xs ++ ys)
+    ≡ true
 has_append_l q [] ys e = absurd (search (rules, e))
 has_append_l q (x ∷ xs) ys e = elim (cases_eq q x) [
   | inl same ↦ cond-true _ _ _ (eq-eqb q x same)
@@ -125,7 +131,8 @@ has_append_l q (x ∷ xs) ys e = elim (cases_eq q x) [
       ∙ has_append_l q xs ys (sym (cond-false _ _ _ (ne_eqb q x far)) ∙ e)
 ]
 
-pub has_append_r : (q : ℕ) (xs ys : List ℕ) → has_number q ys ≡ true → has_number q (xs ++ ys) ≡ true
+pub has_append_r : (q : ℕ) (xs ys : List ℕ) → has_number q ys ≡ true → has_number q (xs ++ ys)
+    ≡ true
 has_append_r q [] ys e = e
 has_append_r q (x ∷ xs) ys e = elim (cases_eq q x) [
   | inl same ↦ cond-true _ _ _ (eq-eqb q x same)
@@ -143,13 +150,15 @@ unfolding targets
 targets_none places base unit p = refl
 
 lined_here : (Line : ℕ → ℕ → Type 0) (places base unit dimensions : ℕ)
-    → IsLined Line places base unit (suc dimensions) → (p q : ℕ) → Joins places base unit p q → Line p q
+    → IsLined Line places base unit (suc dimensions) → (p q : ℕ) → Joins places base unit p q
+    → Line p q
 lined_here Line places base unit dimensions h p q j =
     h p q j.0 (rw (targets_more places base unit dimensions p) (
     has_append_l q (one_of (target places base unit p)) _ (rw j.1 (cond-true _ _ _ (eq-eqb q q refl)))))
 
 lined_on : (Line : ℕ → ℕ → Type 0) (places base unit dimensions : ℕ)
-    → IsLined Line places base unit (suc dimensions) → IsLined Line places base (unit * base) dimensions
+    → IsLined Line places base unit (suc dimensions)
+    → IsLined Line places base (unit * base) dimensions
 lined_on Line places base unit dimensions h p q below e =
     h p q below (rw (targets_more places base unit dimensions p)
     (has_append_r q (one_of (target places base unit p)) _ e))
@@ -173,7 +182,8 @@ under_le base (suc dimensions) m n some u =
     omega (arith, div-add-mod' m base, div-add-mod' n base, u.0, more)
 
 -- a number by its lowest digit and the rest
-split_number : (base unit lo m : ℕ) → lo + unit * m ≡ lo + unit * (base * (m / base)) + unit * (m % base)
+split_number : (base unit lo m : ℕ) → lo + unit * m
+    ≡ lo + unit * (base * (m / base)) + unit * (m % base)
 split_number base unit lo m = ap (λ x. lo + unit * x) (sym (div-add-mod' m base)) ∙ omega arith
 
 join_number : (base unit lo t h : ℕ)
@@ -262,7 +272,8 @@ then_from_length Line p q part rest e = length-append part _
     ∙ ap (λ x. length part + length (rest x)) (path_last Line p q part e)
 
 -- where the descent_in of all digits from this one on ends
-pub record IsLowered (Line : ℕ → ℕ → Type 0) (base dimensions lo unit m n : ℕ) (p : ℕ) (part : List ℕ) :
+pub record IsLowered (Line : ℕ → ℕ
+    → Type 0) (base dimensions lo unit m n : ℕ) (p : ℕ) (part : List ℕ) :
     Type 0 where
   pub number : ℕ
   pub lower : number ≤ m
@@ -270,7 +281,8 @@ pub record IsLowered (Line : ℕ → ℕ → Type 0) (base dimensions lo unit m 
   pub path : IsPath Line p part (lo + unit * number)
   pub short : length part + (base - 1) * less base dimensions number n ≤ (base - 1) * dimensions
 
-power_part : (base dimensions m : ℕ) → 0 < base → m < base ^ suc dimensions → m / base < base ^ dimensions
+power_part : (base dimensions m : ℕ) → 0 < base → m < base ^ suc dimensions
+    → m / base < base ^ dimensions
 power_part base dimensions m some small =
     div_below m base (base ^ dimensions) some (rw (sym (pow-suc base dimensions)) small)
 
@@ -282,7 +294,8 @@ rest_joined : (base t g : ℕ) → t < base → (t + base * g) / base ≡ g
 rest_joined base t g small = let e : t + base * g ≡ g * base + t = omega arith in ap (λ x. x / base) e
     ∙ div-mul-add g base t small
 
-pub descent_down : (Line : ℕ → ℕ → Type 0) (places base b : ℕ) → 2 ≤ base → (dimensions unit lo m n : ℕ)
+pub descent_down : (Line : ℕ → ℕ → Type 0) (places base b : ℕ) → 2 ≤ base
+    → (dimensions unit lo m n : ℕ)
     → IsLined Line places base unit dimensions → lo < unit → b / unit ≡ n
     → m < base ^ dimensions → n < base ^ dimensions → lo + unit * m < places
     → IsLowered Line base dimensions lo unit m n (lo + unit * m)

@@ -1,11 +1,13 @@
 -- What a scheduler over the lifeline graph rests on.
 use Rattle.std.specs.Prelude.{◌≡◌, ℕ, ◌-◌, ◌*◌, ◌<◌, ◌≤◌, true, false, List, length}
 use Rattle.std.specs.List.Sorted.{IsStrictlyIncreasing}
-use Rattle.glb_cube.specs.Lines.{Cube, outs_of, ins_of, has_number, IsDistinct, count_to}
+use Rattle.glb_cube.specs.Lines.{Cube, outs_of, ins_of}
+use Rattle.glb_laws.specs.Numbers.{has_number, IsDistinct, count_to}
 use Rattle.glb_cube.specs.Ways.{IsWay}
 
--- lifelines lead to different other places, degrees are at most the dimension, and there is a short way between any two
--- places; the lifelines to a place come by rising number, and are those that lead there
+-- lifelines lead to different other places, degrees are at most the dimension, and there is a short
+-- way between any two places; the lifelines to a place come by rising number, and are those that
+-- lead there
 pub record GraphLaws (c : Cube) : Type 0 where
   pub near : (p q : ℕ) → has_number q (outs_of c p) ≡ true → q < c.places
   pub no_loop : (p : ℕ) → has_number p (outs_of c p) ≡ false

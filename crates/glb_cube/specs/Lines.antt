@@ -1,7 +1,9 @@
 -- The lifeline graph: a cyclic hypercube over the places.
-use Rattle.std.specs.Prelude.{◌≡◌, ⊤, ℕ, zero, suc, ◌+◌, ◌^◌, ◌<◌, ◌≤◌, ◌==◌, Bool, true, false, cond, List, [], ◌∷◌, filter}
+use Rattle.std.specs.Prelude.{◌≡◌, ⊤, ℕ, zero, suc, ◌+◌, ◌^◌, ◌<◌, ◌≤◌, ◌==◌, Bool, true, false}
+use Rattle.std.specs.Prelude.{cond, List, [], ◌∷◌, filter}
 use Rattle.std.specs.List.{range_with_len}
 use Rattle.glb_cube.specs.Digits.{targets}
+use Rattle.glb_laws.specs.Numbers.{has_number}
 
 -- so many places, as numbers of so many digits in the base
 pub record Cube : Type 0 where
@@ -27,10 +29,6 @@ pub record IsCube (c : Cube) : Type 0 where
 abbrev pub outs_of : Cube → ℕ → List ℕ
 outs_of c p = targets c.places c.base 1 c.dimension p
 
-abbrev pub has_number : ℕ → List ℕ → Bool
-has_number n [] = false
-has_number n (m ∷ ms) = cond (n == m) true (has_number n ms)
-
 -- those places below `bound` that have a lifeline to the place, by rising number
 unfoldable pub ins_below : Cube → ℕ → ℕ → List ℕ
 ins_below c q bound = filter (λ p. has_number q (outs_of c p)) (range_with_len 0 bound)
@@ -42,13 +40,3 @@ ins_of c q = ins_below c q c.places
 -- a lifeline leads from `p` to the place `q`
 abbrev pub IsLine : Cube → ℕ → ℕ → Type 0
 IsLine c p q = (q < c.places) × (has_number q (outs_of c p) ≡ true)
-
--- no number stands twice in the list
-abbrev pub IsDistinct : List ℕ → Type 0
-IsDistinct [] = ⊤
-IsDistinct (x ∷ xs) = (has_number x xs ≡ false) × IsDistinct xs
-
--- how many of the numbers below `bound` pass the test
-abbrev pub count_to : ℕ → (ℕ → Bool) → ℕ
-count_to zero f = 0
-count_to (suc n) f = count_to n f + cond (f n) 1 0

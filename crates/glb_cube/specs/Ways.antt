@@ -1,13 +1,10 @@
--- Ways along lifelines, and the one that is taken from a place to another: first every digit that is too high is brought
--- down, then every digit that is too low is brought up.
-use Rattle.std.specs.Prelude.{◌≡◌, ℕ, zero, suc, ◌*◌, ◌==◌, cond, nat_lt, Option, Some, None, List, [], ◌∷◌, ◌++◌}
+-- Ways along lifelines, and the one that is taken from a place to another: first every digit that
+-- is too high is brought down, then every digit that is too low is brought up.
+use Rattle.std.specs.Prelude.{◌≡◌, ℕ, zero, suc, ◌*◌, ◌==◌, cond, nat_lt, Option, Some, None, List}
+use Rattle.std.specs.Prelude.{[], ◌∷◌, ◌++◌}
 use Rattle.glb_cube.specs.Digits.{digit, target}
 use Rattle.glb_cube.specs.Lines.{Cube, IsLine}
-
--- each next place stands to the one before as `Line` says, from `a` over `ps` to `b`, which is the last of them
-abbrev pub IsPath : (ℕ → ℕ → Type 0) → ℕ → List ℕ → ℕ → Type 0
-IsPath Line a [] b = a ≡ b
-IsPath Line a (p ∷ ps) b = Line a p × IsPath Line p ps b
+use Rattle.glb_laws.specs.Numbers.{IsPath}
 
 -- lifelines lead from `a` over `ps` to `b`
 abbrev pub IsWay : Cube → ℕ → List ℕ → ℕ → Type 0
@@ -54,18 +51,21 @@ ascent_in places base b unit p =
 unfoldable pub descent : ℕ → ℕ → ℕ → ℕ → ℕ → ℕ → List ℕ
 descent places base b unit zero p = []
 descent places base b unit (suc dimensions) p =
-    then_from p (descent_in places base b unit p) (λ q. descent places base b (unit * base) dimensions q)
+    then_from p (descent_in places base b unit p)
+    (λ q. descent places base b (unit * base) dimensions q)
 
 -- up in so many dimensions, from the one with this unit on
 unfoldable pub ascent : ℕ → ℕ → ℕ → ℕ → ℕ → ℕ → List ℕ
 ascent places base b unit zero p = []
 ascent places base b unit (suc dimensions) p =
-    then_from p (ascent_in places base b unit p) (λ q. ascent places base b (unit * base) dimensions q)
+    then_from p (ascent_in places base b unit p)
+    (λ q. ascent places base b (unit * base) dimensions q)
 
 -- the places after `a` on the way from `a` to `b`
 abbrev pub steps_of : Cube → ℕ → ℕ → List ℕ
 steps_of c a b =
-    then_from a (descent c.places c.base b 1 c.dimension a) (λ q. ascent c.places c.base b 1 c.dimension q)
+    then_from a (descent c.places c.base b 1 c.dimension a)
+    (λ q. ascent c.places c.base b 1 c.dimension q)
 
 -- the way from `a` to `b`, with both
 abbrev pub way_of : Cube → ℕ → ℕ → List ℕ

@@ -2,7 +2,8 @@
 ghost use Rattle.std.specs.Prelude.{◌≡◌, ◌<◌, ◌≤◌, IfOk, OnOk, ◌++◌, map};
 ghost use Rattle.std.specs.List.{range_with_len};
 ghost use Rattle.glb_cube.specs.Digits.{targets, one_of};
-ghost use Rattle.glb_cube.specs.Lines.{IsDimension, has_number, cube_of, ins_of, ins_below};
+ghost use Rattle.glb_cube.specs.Lines.{IsDimension, cube_of, ins_of, ins_below};
+ghost use Rattle.glb_laws.specs.Numbers.{has_number};
 
 use super::lines::Lines;
 use super::shape::Shape;
@@ -34,7 +35,8 @@ fn targets_of(alloc: Global, shape: Shape, place: u32) -> Result<Vec<u32>, NoMem
 
 fn all_targets(alloc: Global, shape: Shape) -> Result<Vec<Vec<u32>>, NoMemory>
     ensures { IfOk result (λ v. map (λ w. w.items) v.items ≡
-        map (λ p. targets shape.places shape.base 1 shape.dimension p) (range_with_len 0 shape.places)) }
+        map (λ p. targets shape.places shape.base 1 shape.dimension p)
+        (range_with_len 0 shape.places)) }
 {
     let mut all = Vec::new(alloc);
     for place in 0..shape.places {
@@ -62,8 +64,10 @@ fn sources_of(
     place: u32,
 ) -> Result<Vec<u32>, NoMemory>
     requires outs { map (λ w. w.items) outs.now ≡
-        map (λ p. targets shape.places shape.base 1 shape.dimension p) (range_with_len 0 shape.places) }
-    ensures { IfOk result (λ v. v.items ≡ ins_of (cube_of shape.places shape.base shape.dimension) place) }
+        map (λ p. targets shape.places shape.base 1 shape.dimension p)
+        (range_with_len 0 shape.places) }
+    ensures { IfOk result (λ v. v.items ≡ ins_of
+        (cube_of shape.places shape.base shape.dimension) place) }
 {
     let mut ins = Vec::new(alloc);
     for p in 0..shape.places {
@@ -76,7 +80,8 @@ fn sources_of(
 
 fn all_sources(alloc: Global, outs: &[Vec<u32>], shape: Shape) -> Result<Vec<Vec<u32>>, NoMemory>
     requires outs { map (λ w. w.items) outs.now ≡
-        map (λ p. targets shape.places shape.base 1 shape.dimension p) (range_with_len 0 shape.places) }
+        map (λ p. targets shape.places shape.base 1 shape.dimension p)
+        (range_with_len 0 shape.places) }
     ensures { IfOk result (λ v. map (λ w. w.items) v.items ≡
         map (λ p. ins_of (cube_of shape.places shape.base shape.dimension) p)
         (range_with_len 0 shape.places)) }
@@ -88,8 +93,8 @@ fn all_sources(alloc: Global, outs: &[Vec<u32>], shape: Shape) -> Result<Vec<Vec
     Ok(all)
 }
 
-/// The lifeline graph of so many places, whose numbers are written in this base. A greater base gives fewer
-/// lifelines and longer ways.
+/// The lifeline graph of so many places, whose numbers are written in this base. A greater base
+/// gives fewer lifelines and longer ways.
 pub fn cube(alloc: Global, places: u32, base: u32) -> Result<Lines, NoMemory>
     requires places { (1 ≤ places) × (places ≤ 64) }
     requires base { (2 ≤ base) × (base ≤ 64) }

@@ -1,4 +1,4 @@
-//! The lifeline graph: a cyclic hypercube over the places, for every number of places and every base, with a short way
+//! The lifeline graph: a cyclic hypercube over 1 to 64 places, for every base from 2 to 64, with a short way
 //! between any two places.
 #![tactic(auto)]
 

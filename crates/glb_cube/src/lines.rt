@@ -1,7 +1,9 @@
 //! The lifeline graph as a value.
-ghost use Rattle.std.specs.Prelude.{◌≡◌, ℕ, ◌+◌, ◌-◌, ◌*◌, ◌<◌, ◌≤◌, ◌↔◌, All, IfOk, true, false, length};
+ghost use Rattle.std.specs.Prelude.{◌≡◌, ℕ, ◌+◌, ◌-◌, ◌*◌, ◌<◌, ◌≤◌, ◌↔◌, All, IfOk, true, false};
+ghost use Rattle.std.specs.Prelude.{length};
 ghost use Rattle.std.specs.List.Sorted.{IsStrictlyIncreasing};
-ghost use Rattle.glb_cube.specs.Lines.{IsCube, IsDistinct, IsLine, outs_of, ins_of, has_number};
+ghost use Rattle.glb_cube.specs.Lines.{IsCube, IsLine, outs_of, ins_of};
+ghost use Rattle.glb_laws.specs.Numbers.{IsDistinct, has_number};
 ghost use Rattle.glb_cube.specs.Ways.{IsWayOf, way_of};
 
 use super::shape::Shape;
@@ -37,6 +39,7 @@ impl Model for Lines {
 }
 
 impl Lines {
+    /// The number of places, from 1 to 64.
     pub fn places(&self) -> u32
         ensures places { result ≡ self.now.places }
         ensures few { self.now.places ≤ 64 }
@@ -45,6 +48,7 @@ impl Lines {
         self.shape.places
     }
 
+    /// The base in which places are written, from 2 to 64.
     pub fn base(&self) -> u32
         ensures { result ≡ self.now.base }
     {
@@ -90,7 +94,8 @@ impl Lines {
         requires b { b < self.now.places }
         ensures way { IfOk result (λ w. w.items ≡ way_of self.now a b) }
         ensures leads { IfOk result (λ w. IsWayOf self.now a b w.items) }
-        ensures short { IfOk result (λ w. length w.items ≤ self.now.dimension * (self.now.base - 1) + 1) }
+        ensures short { IfOk result
+            (λ w. length w.items ≤ self.now.dimension * (self.now.base - 1) + 1) }
     {
         way_between(alloc, self.shape, a, b)
     }

@@ -1,5 +1,5 @@
-//! The numbers that fix a lifeline graph, the digits of a place, and where its lifeline in one dimension leads. A
-//! dimension is named by its unit, the power of the base that its digit counts.
+//! The numbers that fix a lifeline graph, the digits of a place, and where its lifeline in one
+//! dimension leads. A dimension is named by its unit, the power of the base that its digit counts.
 ghost use Rattle.std.specs.Prelude.{◌≡◌, ◌+◌, ◌*◌, ◌^◌, ◌<◌, ◌≤◌};
 ghost use Rattle.glb_cube.specs.Digits.{digit as spec_digit, target as spec_target};
 ghost use Rattle.glb_cube.specs.Lines.{IsDimension};
@@ -62,7 +62,7 @@ impl Shape {
         if digit + 1 < self.base && place + unit < self.places {
             Some(place + unit)
         } else if digit > 0 {
-            // The higher digits are not below `places`, so the next one is 0.
+            // No place has a higher digit there, so the next one is 0.
             Some(place - digit * unit)
         } else {
             None

@@ -1,8 +1,9 @@
-//! Ways between places. Each function appends the places that it reaches to `way`, and answers the last of them.
+//! Ways between places. Each function appends the places that it reaches to `way`, and answers the
+//! last of them.
 ghost use Rattle.std.specs.Prelude.{◌≡◌, ◌+◌, ◌-◌, ◌*◌, ◌++◌, ◌<◌, ◌≤◌, IfOk, length};
-ghost use Rattle.glb_cube.specs.Digits.{digit as spec_digit};
 ghost use Rattle.glb_cube.specs.Lines.{cube_of};
-ghost use Rattle.glb_cube.specs.Ways.{last_of, walk, descent_in, ascent_in, descent, ascent, way_of};
+ghost use Rattle.glb_cube.specs.Ways.{last_of, walk, descent_in, ascent_in, descent, ascent};
+ghost use Rattle.glb_cube.specs.Ways.{way_of};
 
 use super::shape::Shape;
 use glb_laws::NoMemory;
@@ -20,7 +21,8 @@ fn follow(
     requires place { place < shape.places }
     ensures ok { IfOk result (λ q. way.new.items ≡
         way.old.items ++ walk shape.places shape.base unit goal place shape.base) }
-    ensures last { IfOk result (λ q. q ≡ last_of place (walk shape.places shape.base unit goal place shape.base)) }
+    ensures last { IfOk result
+        (λ q. q ≡ last_of place (walk shape.places shape.base unit goal place shape.base)) }
     ensures small { IfOk result (λ q. q < shape.places) }
 {
     let mut reached = place;
@@ -51,7 +53,8 @@ fn descend_in(
     requires place { place < shape.places }
     ensures ok { IfOk result (λ q. way.new.items ≡
         way.old.items ++ descent_in shape.places shape.base b unit place) }
-    ensures last { IfOk result (λ q. q ≡ last_of place (descent_in shape.places shape.base b unit place)) }
+    ensures last { IfOk result
+        (λ q. q ≡ last_of place (descent_in shape.places shape.base b unit place)) }
     ensures small { IfOk result (λ q. q < shape.places) }
 {
     let goal = shape.digit(unit, b);
@@ -74,7 +77,8 @@ fn ascend_in(
     requires place { place < shape.places }
     ensures ok { IfOk result (λ q. way.new.items ≡
         way.old.items ++ ascent_in shape.places shape.base b unit place) }
-    ensures last { IfOk result (λ q. q ≡ last_of place (ascent_in shape.places shape.base b unit place)) }
+    ensures last { IfOk result
+        (λ q. q ≡ last_of place (ascent_in shape.places shape.base b unit place)) }
     ensures small { IfOk result (λ q. q < shape.places) }
 {
     let goal = shape.digit(unit, b);
@@ -90,7 +94,8 @@ fn descend(way: &mut Vec<u32>, shape: Shape, place: u32, b: u32) -> Result<u32, 
     requires place { place < shape.places }
     ensures ok { IfOk result (λ q. way.new.items ≡
         way.old.items ++ descent shape.places shape.base b 1 shape.dimension place) }
-    ensures last { IfOk result (λ q. q ≡ last_of place (descent shape.places shape.base b 1 shape.dimension place)) }
+    ensures last { IfOk result
+        (λ q. q ≡ last_of place (descent shape.places shape.base b 1 shape.dimension place)) }
     ensures small { IfOk result (λ q. q < shape.places) }
 {
     let mut reached = place;
@@ -120,7 +125,8 @@ fn ascend(way: &mut Vec<u32>, shape: Shape, place: u32, b: u32) -> Result<(), No
 /// The way from `a` to `b`, with both.
 pub(crate) fn way_between(alloc: Global, shape: Shape, a: u32, b: u32) -> Result<Vec<u32>, NoMemory>
     requires { a < shape.places }
-    ensures { IfOk result (λ w. w.items ≡ way_of (cube_of shape.places shape.base shape.dimension) a b) }
+    ensures { IfOk result (λ w. w.items ≡ way_of
+        (cube_of shape.places shape.base shape.dimension) a b) }
 {
     let mut way = Vec::new(alloc);
     way.push(a)?;

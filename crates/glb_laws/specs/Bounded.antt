@@ -9,13 +9,17 @@ use Rattle.glb_laws.specs.declared.greatest.Greatest.{Greatest}
 abbrev pub capped_sum : ℕ → ℕ → ℕ
 capped_sum a b = min (a + b) (2 ^ 64 - 1)
 
+-- the value with this sum
 abbrev pub sat_sum : ℕ → SatSum
 sat_sum n = record { 0 = n }
 
+-- the value with this greatest number
 abbrev pub greatest : ℕ → Greatest
 greatest n = record { 0 = n }
 
-pub sat_sum_laws : MonoidLaws {V = SatSum} (λ a. a.0 < 2 ^ 64) (sat_sum 0) (λ a b. sat_sum (capped_sum a.0 b.0))
+-- such sums are a monoid
+pub sat_sum_laws : MonoidLaws {V = SatSum} (λ a. a.0 < 2 ^ 64) (sat_sum 0)
+    (λ a b. sat_sum (capped_sum a.0 b.0))
 sat_sum_laws = record {
   unit_proper = omega arith;
   combine_proper = λ a b p q. omega arith;
@@ -25,7 +29,9 @@ sat_sum_laws = record {
   comm = λ a b p q. ap sat_sum (omega arith);
 }
 
-pub greatest_laws : MonoidLaws {V = Greatest} (λ a. a.0 < 2 ^ 64) (greatest 0) (λ a b. greatest (max a.0 b.0))
+-- the greatest is a monoid
+pub greatest_laws : MonoidLaws {V = Greatest} (λ a. a.0 < 2 ^ 64) (greatest 0)
+    (λ a b. greatest (max a.0 b.0))
 greatest_laws = record {
   unit_proper = omega arith;
   combine_proper = λ a b p q. omega arith;

@@ -13,9 +13,11 @@ pub trait Monoid: Copy + Eq {
     /// The two values as one.
     ghost combine: { Self → Self → Self };
 
+    /// The neutral value.
     fn unit() -> Self
         ensures { result ≡ unit };
 
+    /// The two values as one.
     fn combine(&self, other: &Self) -> Self
         ensures { result ≡ combine self.now other.now };
 

@@ -4,7 +4,7 @@ ghost use Rattle.std.specs.Prelude.{◌≡◌, List, ◌++◌, IfOk, OnOk, OnErr
 use super::memory::NoMemory;
 use super::monoid::Monoid;
 
-/// A tree, told by its items: what stands below an item, and what an item is worth.
+/// A tree, told by its items: what stands below an item, and what an item counts for.
 pub trait Program: Drop {
     type Item: Drop;
 
@@ -13,12 +13,14 @@ pub trait Program: Drop {
     /// The items one step below an item, in order.
     ghost children: { Self → Self.Item → List Self.Item };
 
-    /// What an item is worth.
+    /// What an item counts for.
     ghost value: { Self → Self.Item → Self.Value };
 
-    /// Appends the children of an item to `out`, and answers its value. The memory is that of `out`.
+    /// Appends the children of an item to `out`, and answers its value. Memory is taken from the
+    /// allocator of `out`.
     fn expand(&self, item: &Self::Item, out: &mut Vec<Self::Item>) -> Result<Self::Value, NoMemory>
-        ensures appended { OnOk result (out.new.items ≡ out.old.items ++ children self.now item.now) }
+        ensures appended { OnOk result
+            (out.new.items ≡ out.old.items ++ children self.now item.now) }
         ensures value { IfOk result (λ v. v ≡ value self.now item.now) }
         ensures unchanged { OnErr result (out.new.items ≡ out.old.items) };
 

@@ -1,5 +1,6 @@
 -- How the tests of the balances come together.
-use Rattle.std.proofs.Common.{◌≡◌, ℕ, ◌+◌, ◌<◌, ◌≤◌, ◌↔◌, Bool, inl, inr, List, length, get_or, sum_by, sym, ap, subst, ◌∙◌, arith}
+use Rattle.std.proofs.Common.{◌≡◌, ℕ, ◌+◌, ◌<◌, ◌≤◌, ◌↔◌, Bool, inl, inr, List, length, get_or}
+use Rattle.std.proofs.Common.{sum_by, sym, ap, subst, ◌∙◌, arith}
 use Rattle.std.specs.Prelude.{Some, slice_get, IsTrue, ◌==◌, nat_lt}
 use Rattle.std.proofs.lemmas.Bool.{cases_Bool, eqb-true, eq-eqb, ltb-true, ltb-false}
 use Rattle.std.proofs.lemmas.Option.{get_or_from_slice_get, slice_get_within}
@@ -36,11 +37,13 @@ first_more n all degrees awake c d a e f b below p c' d' a' h i j k =
           let j' = subst (λ m. slice_get degrees m ≡ Some d') same j in
           let k' = subst (λ m. slice_get awake m ≡ Some a') same k in
           same_place (get_or all n c) c' d d' a a' (get_or_from_slice_get all n c' c i')
-          (e ∙ get_or_from_slice_get degrees n d' d j') (f ∙ get_or_from_slice_get awake n a' a k') b
+          (e ∙ get_or_from_slice_get degrees n d' d j') (f ∙ get_or_from_slice_get awake n a' a k')
+          b
     ]
 
 -- all places balance
-pub first_all : (n : ℕ) (all : List Counters) (degrees : List ℕ) (awake : List Bool) → length all ≤ n
+pub first_all : (n : ℕ) (all : List Counters) (degrees : List ℕ) (awake : List Bool)
+    → length all ≤ n
     → FirstBalance n all degrees awake → EachPlaceBalances all degrees awake
 first_all n all degrees awake h below p c d a i j k =
     below p c d a (omega (arith, slice_get_within all p c i)) i j k
@@ -55,7 +58,8 @@ pub sums_decided : (all : List Counters)
     → sent_units ≡ sum_by (λ c. c.sent_units) all → got_units ≡ sum_by (λ c. c.got_units) all
     → items ≡ nodes → given ≡ got → line_given ≡ line_got → sent_units ≡ got_units
     → IsTrue (asks == denied + given) ↔ SumsBalance all nodes
-sums_decided all nodes items asks denied given got line_given line_got sent_units got_units i a d g t lg
+sums_decided all nodes items asks denied given got line_given line_got sent_units got_units i a d g
+    t lg
     lt su gu e f h k = (
       λ yes. record {
         items = sym i ∙ e;
@@ -66,11 +70,13 @@ sums_decided all nodes items asks denied given got line_given line_got sent_unit
             ∙ ap (λ m. sum_by (λ c. c.denied) all + m) g;
       },
       λ b. eq-eqb _ _
-          (a ∙ b.answers ∙ sym (ap (λ m. m + given) d ∙ ap (λ m. sum_by (λ c. c.denied) all + m) g)),
+          (a ∙ b.answers
+          ∙ sym (ap (λ m. m + given) d ∙ ap (λ m. sum_by (λ c. c.denied) all + m) g)),
     )
 
 -- where the sums balance, the places decide
-pub places_decided : (all : List Counters) (nodes : ℕ) (degrees : List ℕ) (awake : List Bool) (b : Bool)
+pub places_decided : (all : List Counters) (nodes : ℕ) (degrees : List ℕ) (awake : List Bool)
+    (b : Bool)
     → SumsBalance all nodes → (IsTrue b ↔ EachPlaceBalances all degrees awake)
     → IsTrue b ↔ IsBalanced all nodes degrees awake
 places_decided all nodes degrees awake b sums each =

@@ -1,5 +1,6 @@
 -- How the lines of a report grow, piece by piece.
-use Rattle.std.proofs.Common.{◌≡◌, ℕ, ◌+◌, ◌<◌, ◌≤◌, List, [], ◌∷◌, ◌++◌, length, get_or, drop, refl, sym, ap, ◌∙◌, append_assoc, append-nil}
+use Rattle.std.proofs.Common.{◌≡◌, ℕ, ◌+◌, ◌<◌, ◌≤◌, List, [], ◌∷◌, ◌++◌, length, get_or, drop}
+use Rattle.std.proofs.Common.{refl, sym, ap, ◌∙◌, append_assoc, append-nil}
 use Rattle.std.proofs.lemmas.List.{drop_more, drop_all}
 use Rattle.glb_stats.specs.declared.counters.Counters.{Counters}
 use Rattle.glb_stats.specs.declared.counter.Counter.{Counter}
@@ -45,7 +46,8 @@ places-none p cs i h = rw (drop_all i cs h) refl
 
 -- the first of the places that are left
 places-step : (p : ℕ) (cs : List Counters) (i : ℕ) (d : Counters) → i < length cs
-    → places_text p (drop i cs) ≡ place_text p (get_or cs i d) ++ places_text (p + 1) (drop (i + 1) cs)
+    → places_text p (drop i cs) ≡ place_text p (get_or cs i d) ++ places_text (p + 1)
+    (drop (i + 1) cs)
 unfolding places_text
 places-step p cs i d h = rw (drop_more cs i d h) refl
 
@@ -66,9 +68,11 @@ written_places p cs i out whole h so_far =
     sym (append-nil out) ∙ ap (λ l. out ++ l) (sym (places-none p cs i h)) ∙ so_far
 
 -- a line of three pieces was ended
-pub ended_line : (start head number rest out new : List ℕ) → out ≡ ((start ++ head) ++ number) ++ rest
+pub ended_line : (start head number rest out new : List ℕ)
+    → out ≡ ((start ++ head) ++ number) ++ rest
     → new ≡ out ++ 10 ∷ [] → new ≡ start ++ (((head ++ number) ++ rest) ++ 10 ∷ [])
-ended_line start head number rest out new e f = f ∙ ap (λ l. l ++ 10 ∷ []) e ∙ simp append_assoc refl
+ended_line start head number rest out new e f =
+    f ∙ ap (λ l. l ++ 10 ∷ []) e ∙ simp append_assoc refl
 
 -- a line of two pieces was ended
 pub ended_short_line : (start head rest out new : List ℕ) → out ≡ (start ++ head) ++ rest

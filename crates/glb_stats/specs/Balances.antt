@@ -2,7 +2,8 @@
 use Rattle.std.specs.Prelude.{◌≡◌, ℕ, ◌+◌, ◌^◌, ◌<◌, Bool, cond, Some, List, sum_by, slice_get}
 use Rattle.glb_stats.specs.declared.counters.Counters.{Counters}
 
--- how many lines of a place had their request remembered at the start: all of them if it started asleep
+-- how many lines of a place had their request remembered at the start: all of them if it started
+-- asleep
 abbrev pub armed_lines : ℕ → Bool → ℕ
 armed_lines degree awake = cond awake 0 degree
 

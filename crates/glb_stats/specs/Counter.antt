@@ -42,3 +42,21 @@ number_of counter.SentUnits c = c.sent_units
 number_of counter.GotUnits c = c.got_units
 number_of counter.Sleeps c = c.sleeps
 number_of counter.Wakes c = c.wakes
+
+-- the counters of a place that did nothing
+abbrev pub no_counters : Counters
+no_counters = record {
+  items = 0;
+  asks = 0;
+  shrugs = 0;
+  denied = 0;
+  given = 0;
+  got = 0;
+  line_asks = 0;
+  line_given = 0;
+  line_got = 0;
+  sent_units = 0;
+  got_units = 0;
+  sleeps = 0;
+  wakes = 0;
+}

@@ -25,7 +25,8 @@ places_text place (c ∷ cs) = place_text place c ++ places_text (place + 1) cs
 
 -- the line of the sums over all places
 abbrev pub total_text : List Counters → List ℕ
-total_text all = codes "total" ++ numbers_text (λ k. sum_by (number_of k) all) every_counter ++ 10 ∷ []
+total_text all =
+    codes "total" ++ numbers_text (λ k. sum_by (number_of k) all) every_counter ++ 10 ∷ []
 
 -- the number of places, a line for each, and their sums
 abbrev pub stats_text : List Counters → List ℕ

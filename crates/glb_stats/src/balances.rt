@@ -1,13 +1,14 @@
 //! Whether the counters of a run balance.
 ghost use Rattle.std.specs.Prelude.{◌≡◌, ◌≤◌, ◌<◌, ◌^◌, ◌↔◌, IsTrue, length, All, sum_by};
 ghost use Rattle.glb_stats.specs.Counter.{number_of};
-ghost use Rattle.glb_stats.specs.Balances.{SumsBalance, PlaceBalances, EachPlaceBalances, IsBalanced, HasSmallUnits};
+ghost use Rattle.glb_stats.specs.Balances.{SumsBalance, PlaceBalances, EachPlaceBalances};
+ghost use Rattle.glb_stats.specs.Balances.{IsBalanced, HasSmallUnits};
 
 use super::counter::Counter;
 use super::counters::Counters;
 
-/// What the balances need to know of a run: the number of all nodes of its trees, and for each place
-/// how many lifelines it has and whether it started with items.
+/// What the balances need to know of a run: the number of all nodes of its trees, and for each
+/// place how many lifelines it has and whether it started with items.
 #[derive(Debug, Drop)]
 pub struct StatJob {
     pub items: u64,

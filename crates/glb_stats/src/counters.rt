@@ -1,4 +1,6 @@
 //! The counters of a place.
+ghost use Rattle.std.specs.Prelude.{◌≡◌};
+ghost use Rattle.glb_stats.specs.Counter.{no_counters};
 
 /// What a place counted. A count that is past the end of its type stands at that end.
 #[derive(Clone, Copy, Debug, PartialEq, Eq)]
@@ -25,8 +27,35 @@ pub struct Counters {
     pub sent_units: u128,
     /// The units of all parts received.
     pub got_units: u128,
-    /// How often the place fell asleep.
+    /// How often the place became inactive.
     pub sleeps: u64,
-    /// How often a part woke it.
+    /// How often a part over a lifeline made it active again.
     pub wakes: u64,
+}
+
+impl Counters {
+    /// The counters of a place that did nothing.
+    pub const ZERO: Counters = Counters {
+        items: 0,
+        asks: 0,
+        shrugs: 0,
+        denied: 0,
+        given: 0,
+        got: 0,
+        line_asks: 0,
+        line_given: 0,
+        line_got: 0,
+        sent_units: 0,
+        got_units: 0,
+        sleeps: 0,
+        wakes: 0,
+    };
+}
+
+impl Default for Counters {
+    ghost is_default = { λ counters. counters ≡ no_counters };
+
+    fn default() -> Counters {
+        Counters::ZERO
+    }
 }

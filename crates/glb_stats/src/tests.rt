@@ -5,23 +5,6 @@ use super::{Counters, StatJob, balance, write_stats};
 use std::alloc::Global;
 use std::test::Fail;
 
-/// A place that did nothing.
-const NONE: Counters = Counters {
-    items: 0,
-    asks: 0,
-    shrugs: 0,
-    denied: 0,
-    given: 0,
-    got: 0,
-    line_asks: 0,
-    line_given: 0,
-    line_got: 0,
-    sent_units: 0,
-    got_units: 0,
-    sleeps: 0,
-    wakes: 0,
-};
-
 /// A job of one place.
 fn alone(alloc: Global, items: u64, degree: u32, awake: bool) -> Result<StatJob, Fail>
     ensures degree { IfOk result (λ job. length job.degree.items ≡ 1) }
@@ -40,7 +23,7 @@ fn one_place_balances_alone(rt: HostRuntime) -> Result<(), Fail> {
     let awake = Counters {
         items: 54,
         sleeps: 1,
-        ..NONE
+        ..Counters::ZERO
     };
     assert!(rt; balance(&[awake], &alone(alloc, 54, 0, true)?));
     assert!(rt; !balance(&[awake], &alone(alloc, 53, 0, true)?));
@@ -49,7 +32,7 @@ fn one_place_balances_alone(rt: HostRuntime) -> Result<(), Fail> {
     let twice = Counters {
         items: 54,
         sleeps: 2,
-        ..NONE
+        ..Counters::ZERO
     };
     assert!(rt; !balance(&[twice], &alone(alloc, 54, 0, true)?));
     let sleeper = Counters {
@@ -58,7 +41,7 @@ fn one_place_balances_alone(rt: HostRuntime) -> Result<(), Fail> {
         line_given: 2,
         wakes: 2,
         sleeps: 2,
-        ..NONE
+        ..Counters::ZERO
     };
     assert!(rt; balance(&[sleeper], &alone(alloc, 0, 3, false)?));
     let unanswered = Counters {
@@ -129,7 +112,7 @@ fn one_place_is_told(rt: HostRuntime) -> Result<(), Fail> {
         &[Counters {
             items: 54,
             sleeps: 1,
-            ..NONE
+            ..Counters::ZERO
         }],
         &mut out,
     )?;
@@ -175,8 +158,9 @@ fn two_places_and_their_sums_are_told(rt: HostRuntime) -> Result<(), Fail> {
         sent_units 1329227995784915872903807060280344576 got_units 11 sleeps 12 wakes 13\n\
         place 1 items 1 asks 2 shrugs 3 denied 4 given 5 got 6 line_asks 7 line_given 8 line_got 9 \
         sent_units 1 got_units 11 sleeps 12 wakes 13\n\
-        total items 2 asks 4 shrugs 6 denied 8 given 10 got 12 line_asks 14 line_given 16 line_got 18 \
-        sent_units 1329227995784915872903807060280344577 got_units 22 sleeps 24 wakes 26\n";
+        total items 2 asks 4 shrugs 6 denied 8 given 10 got 12 line_asks 14 line_given 16 \
+        line_got 18 sent_units 1329227995784915872903807060280344577 got_units 22 sleeps 24 \
+        wakes 26\n";
     assert_eq!(rt; out.as_slice(), want.as_bytes());
     Ok(())
 }

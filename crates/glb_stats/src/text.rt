@@ -1,5 +1,6 @@
 //! Writes what each place counted.
-ghost use Rattle.std.specs.Prelude.{◌≡◌, ◌≤◌, ◌<◌, ◌^◌, ◌+◌, ◌++◌, ◌∷◌, [], length, All, sum_by, OnOk, OnErr, string_bytes, codes};
+ghost use Rattle.std.specs.Prelude.{◌≡◌, ◌≤◌, ◌<◌, ◌^◌, ◌+◌, ◌++◌, ◌∷◌, [], length, All, sum_by};
+ghost use Rattle.std.specs.Prelude.{OnOk, OnErr, string_bytes, codes};
 ghost use Rattle.glb_stats.specs.Counter.{number_of, every_counter};
 ghost use Rattle.glb_stats.specs.Balances.{HasSmallUnits};
 ghost use Rattle.glb_stats.specs.Text.{pair_text, place_text, places_text, total_text, stats_text};
@@ -13,7 +14,8 @@ use std::fmt::Write;
 
 /// A name and a number, each behind a space.
 fn write_pair(out: &mut String, name: &str, number: u128) -> Result<(), AllocError>
-    ensures { OnOk result (string_bytes out.new ≡ string_bytes out.old ++ pair_text name.now number) }
+    ensures { OnOk result
+        (string_bytes out.new ≡ string_bytes out.old ++ pair_text name.now number) }
 {
     write!(out, " {name} {number}")
 }

@@ -27,7 +27,8 @@ module _ {X V : Type 0} (children : X → List X) (value : X → V) {IsProper : 
       let same : nodes children roots limit ≡ nodes children roots number =
       nodes_same children roots number limit enough small
       in
-      let order : IsPermutation (nodes children roots number) b.taken = ended_nodes children roots b.taken e in
+      let order : IsPermutation (nodes children roots number) b.taken =
+      ended_nodes children roots b.taken e in
       let fold = combined_permutation laws value proper _ _ order unit laws.unit_proper in
       record {
         small = small_more children roots number limit enough small;
@@ -36,13 +37,13 @@ module _ {X V : Type 0} (children : X → List X) (value : X → V) {IsProper : 
       }
 
   -- the last batch found nothing to take
-  pub outcome_at_end : (roots mid after : List X) (v w : V) (n limit items k : ℕ)
+  pub outcome_at_end : (roots mid after : List X) (v w : V) (limit items k : ℕ)
       → Expands children value combine roots unit items mid v
       → Expands children value combine mid v k after w
-      → k ≡ 0 → (k < n → after ≡ []) → 1 ≤ n → items ≤ limit
+      → k ≡ 0 → (k ≡ 0 → after ≡ []) → items ≤ limit
       → IsOutcome children value unit combine roots limit (record { items = items; value = w })
-  outcome_at_end roots mid after v w n limit items k b last zero empty some h =
-      let none : after ≡ [] = empty (omega arith) in
+  outcome_at_end roots mid after v w limit items k b last zero empty h =
+      let none : after ≡ [] = empty zero in
       let total : items + k ≡ items = omega arith in
       let all = batch_append children value combine roots mid after unit v w items k b last in
       let counted = subst (λ m. Expands children value combine roots unit m after w) total all in
@@ -51,14 +52,14 @@ module _ {X V : Type 0} (children : X → List X) (value : X → V) {IsProper : 
 
 module _ {X V : Type 0} (children : X → List X) (value : X → V) (combine : V → V → V) where
   -- a run that passed the limit took more items than small trees have
-  pub too_many : (roots left : List X) (s v : V) (n limit items : ℕ)
-      → Expands children value combine roots s items left v → limit < items → items ≤ limit + n
-      → IsTooMany children roots n limit items
-  too_many roots left s v n limit items b above most =
+  pub too_many : (roots left : List X) (s v : V) (limit items : ℕ)
+      → Expands children value combine roots s items left v → limit < items
+      → IsTooMany children roots limit items
+  too_many roots left s v limit items b above =
       let e = batch_expansion children value combine roots left s v items b in
       record {
         above = above;
-        last_batch = most;
-        large = λ small. omega (arith, never_more children roots b.taken left limit e small, b.number);
+        large = λ small. omega
+            (arith, never_more children roots b.taken left limit e small, b.number);
         expanded = (b.taken, left, e, b.number);
       }

@@ -1,5 +1,7 @@
--- Trees down to a depth: they grow with the depth until they have ended, and then they stay as they are.
-use Rattle.std.proofs.Common.{◌≡◌, ℕ, zero, suc, ◌+◌, ◌-◌, ◌≤◌, ◌⊎◌, inl, inr, List, [], ◌∷◌, ◌++◌, length, refl, sym, ap, subst, ◌∙◌, arith, length-append}
+-- Trees down to a depth: they grow with the depth until they have ended, and then they stay as they
+-- are.
+use Rattle.std.proofs.Common.{◌≡◌, ℕ, zero, suc, ◌+◌, ◌-◌, ◌≤◌, ◌⊎◌, inl, inr, List, [], ◌∷◌, ◌++◌}
+use Rattle.std.proofs.Common.{length, refl, sym, ap, subst, ◌∙◌, arith, length-append}
 use Rattle.std.specs.List.Sorted.{IsPermutation}
 use Rattle.std.proofs.lemmas.List.Concat.{flat_map-append}
 use Rattle.glb_laws.specs.Tree.{tree, forest, IsSmall, nodes}
@@ -69,20 +71,32 @@ module _ {X : Type 0} (children : X → List X) where
   pub forest_size-append : (rs ss : List X) (d : ℕ)
       → forest_size (rs ++ ss) d ≡ forest_size rs d + forest_size ss d
   forest_size-append rs ss d =
-      ap length (forest-append rs ss d) ∙ length-append (forest children rs d) (forest children ss d)
+      ap length (forest-append rs ss d)
+      ∙ length-append (forest children rs d) (forest children ss d)
 
   -- one step deeper there is no less, if that holds of each tree
   forest_grows_by : (d : ℕ) → ((x : X) → tree_size x d ≤ tree_size x (suc d))
       → (rs : List X) → forest_size rs d ≤ forest_size rs (suc d)
   forest_grows_by d grows [] = omega (arith, ap length (forest-none d))
   forest_grows_by d grows (r ∷ rs) =
-      omega (arith, grows r, forest_grows_by d grows rs, forest_size-cons r rs d, forest_size-cons r rs (suc d))
+      omega (
+        arith,
+        grows r,
+        forest_grows_by d grows rs,
+        forest_size-cons r rs d,
+        forest_size-cons r rs (suc d),
+      )
 
   -- one step deeper a tree has no less
   tree_grows : (d : ℕ) (x : X) → tree_size x d ≤ tree_size x (suc d)
   tree_grows zero x = omega (arith, ap length (tree-zero x))
   tree_grows (suc d) x =
-      omega (arith, tree_size-suc x d, tree_size-suc x (suc d), forest_grows_by d (tree_grows d) (children x))
+      omega (
+        arith,
+        tree_size-suc x d,
+        tree_size-suc x (suc d),
+        forest_grows_by d (tree_grows d) (children x),
+      )
 
   -- one step deeper there is no less
   pub forest_grows : (d : ℕ) (rs : List X) → forest_size rs d ≤ forest_size rs (suc d)
@@ -91,12 +105,24 @@ module _ {X : Type 0} (children : X → List X) where
   -- where all trees together end, the first one ends
   first_ends : (d : ℕ) (r : X) (rs : List X) → ForestEnds (r ∷ rs) d → TreeEnds r d
   first_ends d r rs h =
-      omega (arith, tree_grows d r, forest_grows d rs, forest_size-cons r rs d, forest_size-cons r rs (suc d))
+      omega (
+        arith,
+        tree_grows d r,
+        forest_grows d rs,
+        forest_size-cons r rs d,
+        forest_size-cons r rs (suc d),
+      )
 
   -- where all trees together end, the others end
   others_end : (d : ℕ) (r : X) (rs : List X) → ForestEnds (r ∷ rs) d → ForestEnds rs d
   others_end d r rs h =
-      omega (arith, tree_grows d r, forest_grows d rs, forest_size-cons r rs d, forest_size-cons r rs (suc d))
+      omega (
+        arith,
+        tree_grows d r,
+        forest_grows d rs,
+        forest_size-cons r rs d,
+        forest_size-cons r rs (suc d),
+      )
 
   -- where the trees end, one step deeper they are the same list, if that holds of each tree
   forest_stays_by : (d : ℕ)
@@ -113,7 +139,8 @@ module _ {X : Type 0} (children : X → List X) where
   tree_stays : (d : ℕ) (x : X) → TreeEnds x d → tree children x (suc d) ≡ tree children x d
   tree_stays zero x h = absurd (omega (arith, tree_size-suc x zero, ap length (tree-zero x)))
   tree_stays (suc d) x h =
-      let below : ForestEnds (children x) d = omega (arith, tree_size-suc x d, tree_size-suc x (suc d)) in
+      let below : ForestEnds (children x) d =
+      omega (arith, tree_size-suc x d, tree_size-suc x (suc d)) in
       tree-suc x (suc d)
       ∙ ap (λ l. x ∷ l) (forest_stays_by d (tree_stays d) (children x) below)
       ∙ sym (tree-suc x d)
@@ -130,13 +157,20 @@ module _ {X : Type 0} (children : X → List X) where
   forest_settles_by d settles (r ∷ rs) h =
       let first = settles r (first_ends d r rs h) in
       let others = forest_settles_by d settles rs (others_end d r rs h) in
-      omega (arith, first, others, forest_size-cons r rs (suc d), forest_size-cons r rs (suc (suc d)))
+      omega (
+        arith,
+        first,
+        others,
+        forest_size-cons r rs (suc d),
+        forest_size-cons r rs (suc (suc d)),
+      )
 
   -- a tree that ends has ended one step deeper too
   tree_settles : (d : ℕ) (x : X) → TreeEnds x d → TreeEnds x (suc d)
   tree_settles zero x h = absurd (omega (arith, tree_size-suc x zero, ap length (tree-zero x)))
   tree_settles (suc d) x h =
-      let below : ForestEnds (children x) d = omega (arith, tree_size-suc x d, tree_size-suc x (suc d)) in
+      let below : ForestEnds (children x) d =
+      omega (arith, tree_size-suc x d, tree_size-suc x (suc d)) in
       let deeper = forest_settles_by d (tree_settles d) (children x) below in
       omega (arith, deeper, tree_size-suc x (suc d), tree_size-suc x (suc (suc d)))
 
@@ -145,7 +179,8 @@ module _ {X : Type 0} (children : X → List X) where
   settled zero d rs h = subst (ForestEnds rs) (omega arith) h
   settled (suc n) d rs h =
       let e : suc (n + d) ≡ suc n + d = omega arith in
-      subst (ForestEnds rs) e (forest_settles_by (n + d) (tree_settles (n + d)) rs (settled n d rs h))
+      subst (ForestEnds rs) e
+      (forest_settles_by (n + d) (tree_settles (n + d)) rs (settled n d rs h))
 
   -- trees that end are the same list at each greater depth
   pub forest_same : (n d : ℕ) (rs : List X) → ForestEnds rs d
@@ -181,7 +216,8 @@ module _ {X : Type 0} (children : X → List X) where
   -- small trees end
   pub small_settles : (rs : List X) (most : ℕ) → IsSmall children rs most → ForestEnds rs (suc most)
   small_settles rs most h =
-      elim (forest_deep_by (suc most) (tree_deep (suc most)) rs) [ inl a ↦ absurd (omega arith) | inr b ↦ b ]
+      elim (forest_deep_by (suc most) (tree_deep (suc most)) rs)
+      [ inl a ↦ absurd (omega arith) | inr b ↦ b ]
 
   -- the nodes are the same for each number that is enough
   pub nodes_same : (roots : List X) (j k : ℕ) → j ≤ k → IsSmall children roots j
@@ -191,7 +227,8 @@ module _ {X : Type 0} (children : X → List X) where
       ap (forest children roots) e ∙ forest_same (k - j) (suc j) roots (small_settles roots j small)
 
   -- a larger number is enough too
-  pub small_more : (roots : List X) (j k : ℕ) → j ≤ k → IsSmall children roots j → IsSmall children roots k
+  pub small_more : (roots : List X) (j k : ℕ) → j ≤ k → IsSmall children roots j
+      → IsSmall children roots k
   small_more roots j k h small = omega (arith, ap length (nodes_same roots j k h small))
 
   -- a root is taken: it comes first, and its children's trees stand in its place

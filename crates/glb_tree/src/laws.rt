@@ -7,35 +7,35 @@ ghost use Rattle.glb_laws.specs.Tree.{IsSmall, nodes};
 use glb_laws::{Monoid, Program};
 
 /// What was expanded when nothing is left is the nodes of the trees, each once.
-pub fn every_order_ends_alike<P: Program>(_program: &P)
+pub fn every_order_ends_alike<P: Program>(program: &P)
     ensures small { (roots done : List P.Item) →
-        Expansion (P.children _program.now) roots done [] →
-        IsSmall (P.children _program.now) roots (length done) }
+        Expansion (P.children program.now) roots done [] →
+        IsSmall (P.children program.now) roots (length done) }
     ensures nodes { (roots done : List P.Item) →
-        Expansion (P.children _program.now) roots done [] →
-        IsPermutation (nodes (P.children _program.now) roots (length done)) done }
+        Expansion (P.children program.now) roots done [] →
+        IsPermutation (nodes (P.children program.now) roots (length done)) done }
 {}
 
 /// No order ever expands more than small trees have.
-pub fn never_more_than_small<P: Program>(_program: &P)
+pub fn never_more_than_small<P: Program>(program: &P)
     ensures { (roots done left : List P.Item) (most : ℕ) →
-        Expansion (P.children _program.now) roots done left →
-        IsSmall (P.children _program.now) roots most →
+        Expansion (P.children program.now) roots done left →
+        IsSmall (P.children program.now) roots most →
         length done + length left ≤ most }
 {}
 
 /// The nodes are the same list for each number that is enough.
-pub fn nodes_are_one_list<P: Program>(_program: &P)
+pub fn nodes_are_one_list<P: Program>(program: &P)
     ensures { (roots : List P.Item) (j k : ℕ) →
         j ≤ k →
-        IsSmall (P.children _program.now) roots j →
-        nodes (P.children _program.now) roots k ≡ nodes (P.children _program.now) roots j }
+        IsSmall (P.children program.now) roots j →
+        nodes (P.children program.now) roots k ≡ nodes (P.children program.now) roots j }
 {}
 
 /// The values of some items combine to the same in every order.
-pub fn combination_in_any_order<P: Program>(_program: &P)
+pub fn combination_in_any_order<P: Program>(program: &P)
     ensures { (xs ys : List P.Item) →
         IsPermutation xs ys →
-        combined (P.value _program.now) P.Value.combine P.Value.unit xs
-        ≡ combined (P.value _program.now) P.Value.combine P.Value.unit ys }
+        combined (P.value program.now) P.Value.combine P.Value.unit xs
+        ≡ combined (P.value program.now) P.Value.combine P.Value.unit ys }
 {}

@@ -4,4 +4,4 @@
 pub mod laws;
 mod run;
 
-pub use run::{Outcome, RunFault, run_one};
+pub use run::{Outcome, RunFault, bag_of, run_one};

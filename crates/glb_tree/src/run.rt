@@ -1,8 +1,8 @@
 //! A run of whole trees in one bag.
-ghost use Rattle.std.specs.Prelude.{◌≡◌, ◌≤◌, ◌^◌, vec_len, IfOk, IfErr, IsPermutation};
-ghost use Rattle.glb_tree.specs.Runs.{IsOutcome, HasCause};
+ghost use Rattle.std.specs.Prelude.{◌≡◌, ◌≤◌, vec_len, IfOk, IfErr, IsPermutation};
+ghost use Rattle.glb_tree.specs.Runs.{IsOutcome, HasCause, PassesByAtMost};
 
-use glb_laws::{Bag, Monoid, NoMemory, Program};
+use glb_laws::{Bag, MOST_BATCH, MOST_ITEMS, Monoid, NoMemory, Program};
 use std::alloc::Global;
 
 /// What a run over whole trees gives: the number of their nodes, and the combination of the values.
@@ -17,11 +17,13 @@ pub struct Outcome<V> {
 pub enum RunFault {
     /// The trees have more nodes than the limit. So many were expanded.
     TooMany { items: u64 },
+    /// There was no memory.
     NoMemory,
 }
 
-/// A bag of the roots, the first of them added last.
-fn bag_of<P: Program, B: Bag<P>>(
+/// A bag of these items, of which the first is added last. Where there is no memory the items are
+/// dropped.
+pub fn bag_of<P: Program, B: Bag<P>>(
     alloc: Global,
     program: &P,
     roots: Vec<P::Item>,
@@ -49,13 +51,14 @@ pub fn run_one<P: Program, B: Bag<P>>(
     n: u64,
     limit: u64,
 ) -> Result<Outcome<P::Value>, RunFault>
-    requires batch { (1 ≤ n) × (n ≤ 65536) }
-    requires limited { (1 ≤ limit) × (limit ≤ 2 ^ 40) }
+    requires batch { (1 ≤ n) × (n ≤ MOST_BATCH) }
+    requires limited { (1 ≤ limit) × (limit ≤ MOST_ITEMS) }
     requires roots { vec_len roots ≤ 100000 }
     ensures ok { IfOk result
         (IsOutcome (P.children program.now) (P.value program.now) P.Value.unit P.Value.combine
         roots.items limit) }
-    ensures fault { IfErr result (HasCause (P.children program.now) roots.items n limit) }
+    ensures fault { IfErr result (HasCause (P.children program.now) roots.items limit) }
+    ensures last_batch { IfErr result (PassesByAtMost n limit) }
 {
     let Ok(mut bag) = bag_of::<P, B>(alloc, program, roots) else {
         return Err(RunFault::NoMemory);

@@ -1,5 +1,5 @@
 use Rattle.std.proofs.Common.{◌≡◌, drop}
-use Rattle.glb_cube.specs.Lines.{has_number}
+use Rattle.glb_laws.specs.Numbers.{has_number}
 use Rattle.glb_cube.proofs.build.has.Given as goal
 
 abbrev pub invariant-loop-x : goal.invariant-loop-x

@@ -1,6 +1,7 @@
 use Rattle.std.proofs.Common.{ap, sym, ◌∙◌, arith}
 use Rattle.glb_cube.specs.Digits.{targets}
-use Rattle.glb_cube.specs.Lines.{has_number, cube_of}
+use Rattle.glb_laws.specs.Numbers.{has_number}
+use Rattle.glb_cube.specs.Lines.{cube_of}
 use Rattle.glb_cube.proofs.GraphFacts.{ins_none}
 use Rattle.glb_cube.proofs.RowFacts.{rows_length, row_is, ins_yes, ins_no}
 use Rattle.glb_cube.proofs.build.sources_of.Goals as goal

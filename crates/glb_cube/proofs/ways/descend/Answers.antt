@@ -2,7 +2,8 @@ use Rattle.std.proofs.Common.{ℕ, ◌+◌, ◌-◌, ◌*◌, ap, ◌∙◌, ref
 use Rattle.std.proofs.lemmas.Nat.{mul-le}
 use Rattle.glb_cube.specs.Ways.{descent}
 use Rattle.glb_cube.proofs.UnitFacts.{unit_small, unit_some, unit_more}
-use Rattle.glb_cube.proofs.WalkRounds.{descent_at, descent_end, part_out, part_last, stop_out, stop_last}
+use Rattle.glb_cube.proofs.WalkRounds.{descent_at, descent_end, part_out, part_last, stop_out}
+use Rattle.glb_cube.proofs.WalkRounds.{stop_last}
 use Rattle.glb_cube.proofs.ways.descend.Goals as goal
 
 pub descend_in-requires-clause-unit : goal.descend_in-requires-clause-unit

@@ -1,6 +1,7 @@
 use Rattle.std.proofs.Common.{sym, ◌∙◌}
 use Rattle.glb_cube.proofs.Cycles.{target_small}
-use Rattle.glb_cube.proofs.WalkRounds.{there_at, stuck_at, on_at, end_at, stop_out, stop_last, on_out, on_last}
+use Rattle.glb_cube.proofs.WalkRounds.{there_at, stuck_at, on_at, end_at, stop_out, stop_last}
+use Rattle.glb_cube.proofs.WalkRounds.{on_out, on_last}
 use Rattle.glb_cube.proofs.ways.follow.Goals as goal
 
 pub returns-then-digit-goal-clause-ok : goal.returns-then-digit-goal-clause-ok

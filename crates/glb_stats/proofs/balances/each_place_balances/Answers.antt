@@ -10,6 +10,5 @@ loop-place-preserved c =
 pub returns : goal.returns
 returns c = (
   λ yes. first_all c.loop-place.place _ _ _ c.loop-place-test.false c.loop-place.invariant,
-  λ each.
-      refl,
+  λ each. refl,
 )

@@ -17,5 +17,6 @@ returns c =
     written_places c.loop-counters.place c.args.all.now c.loop-counters.counters-index _ _
     (omega arith) c.loop-counters.invariant.told
     in
-    whole_text _ (codes "places ") (decimal (length c.args.all.now)) (places_text 0 c.args.all.now) _
+    whole_text _ (codes "places ") (decimal (length c.args.all.now)) (places_text 0 c.args.all.now)
+    _
     (total_text c.args.all.now) _ done c.in_ok-write_total.ensures

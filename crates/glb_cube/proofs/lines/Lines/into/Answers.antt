@@ -1,5 +1,6 @@
 use Rattle.std.proofs.Common.{◌≡◌, ◌<◌, ◌≤◌, ◌↔◌, true, sym, ap, ◌∙◌, subst, arith, length, get_or}
-use Rattle.glb_cube.specs.Lines.{IsCube, IsLine, has_number, cube_of, ins_of}
+use Rattle.glb_cube.specs.Lines.{IsCube, IsLine, cube_of, ins_of}
+use Rattle.glb_laws.specs.Numbers.{has_number}
 use Rattle.std.specs.List.Sorted.{IsStrictlyIncreasing}
 use Rattle.glb_cube.proofs.GraphFacts.{cube_holds, length-ins, ins_rise, exact_ins}
 use Rattle.glb_cube.proofs.RowFacts.{rows_length, row_is}

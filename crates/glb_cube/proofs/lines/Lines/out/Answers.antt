@@ -1,6 +1,8 @@
 use Rattle.std.proofs.Common.{◌≡◌, ◌<◌, ◌≤◌, All, false, sym, ap, ◌∙◌, subst, arith, length, get_or}
-use Rattle.glb_cube.specs.Lines.{IsCube, IsDistinct, has_number, cube_of, outs_of}
-use Rattle.glb_cube.proofs.GraphFacts.{cube_holds, length-outs, All-has_number, outs_below, outs_distinct, no_loop}
+use Rattle.glb_cube.specs.Lines.{IsCube, cube_of, outs_of}
+use Rattle.glb_laws.specs.Numbers.{IsDistinct, has_number}
+use Rattle.glb_cube.proofs.GraphFacts.{cube_holds, length-outs, All-has_number, outs_below}
+use Rattle.glb_cube.proofs.GraphFacts.{outs_distinct, no_loop}
 use Rattle.glb_cube.proofs.RowFacts.{rows_length, row_is}
 use Rattle.glb_cube.proofs.lines.Lines.out.Goals as goal
 

@@ -3,7 +3,8 @@ use Rattle.std.proofs.Common.{◌+◌, ◌*◌, ◌<◌, ◌≤◌, ◌-◌, ap,
 use Rattle.glb_cube.specs.Digits.{digit}
 use Rattle.glb_cube.proofs.DegreeFacts.{next_up, next_over, next_none}
 use Rattle.glb_cube.proofs.shape.Shape.target.Goals as goal
-use Rattle.glb_cube.proofs.shape.Shape.target.Goals.{else-digit-self-via-then-digit-self+else-place-unit, else-digit-self-via-else-digit-self}
+use Rattle.glb_cube.proofs.shape.Shape.target.Goals.{else-digit-self-via-then-digit-self+else-place-unit}
+use Rattle.glb_cube.proofs.shape.Shape.target.Goals.{else-digit-self-via-else-digit-self}
 
 pub returns-then-place-unit : goal.returns-then-place-unit
 returns-then-place-unit c =
