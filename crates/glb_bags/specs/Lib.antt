@@ -1,3 +1,4 @@
 pub mod ListBag
+pub mod inner
 pub use Rattle.glb_laws.specs.Bag
 pub use Rattle.glb_laws.specs.Expansion

@@ -1,7 +1,9 @@
 //! A bag that keeps its items in a `Vec`. The children of an item go straight into it. Where there
 //! is no memory for them, the item itself is held aside, since the `Vec` may have no room for it.
-ghost use Rattle.std.specs.Prelude.{◌≡◌, ◌<◌, length, OnErr, OnOk};
-ghost use Rattle.glb_bags.specs.ListBag.{with_held, TakesLast};
+ghost use Rattle.std.specs.Prelude.{◌≡◌, ◌<◌, ◌≤◌, ◌↔◌, [], length, OnErr, OnOk, IfErr, IfOk, Some};
+ghost use Rattle.glb_laws.specs.Expansion.{Expands};
+ghost use Rattle.glb_bags.specs.ListBag.{with_held};
+ghost use Rattle.glb_bags.specs.inner.LastItem.{TakesLast};
 
 use glb_laws::{Bag, Monoid, NoMemory, Program, Stopped};
 use std::alloc::Global;
@@ -37,33 +39,63 @@ impl<P: Program> ListBag<P> {
             }
         }
     }
+}
 
-    /// Expands the last item, where none is held aside.
-    fn expand_last(&mut self, program: &P, acc: &mut P::Value) -> Result<(), NoMemory>
-        requires some { 0 < length self.old.items.items }
-        requires none_held { self.old.held ≡ None }
-        ensures expanded { OnOk result
-            (TakesLast (P.children program.now) (P.value program.now) P.Value.combine
-            self.old.items.items acc.old self.new.items.items acc.new) }
-        ensures none_held { OnOk result (self.new.held ≡ None) }
-        ensures stays { OnErr result
-            (with_held self.new.items.items self.new.held ≡ self.old.items.items) }
-        ensures value_stays { OnErr result (acc.new ≡ acc.old) }
-    {
-        let Some(item) = self.items.pop() else {
-            unreachable!()
-        };
-        match program.expand(&item, &mut self.items) {
-            Ok(worth) => {
-                *acc = acc.combine(&worth);
-                Ok(())
-            }
-            Err(refused) => {
-                self.held = Some(item);
-                Err(refused)
-            }
+/// Expands the last item of a list, or hands it back where there is no memory.
+#[inline(always)]
+fn expand_last<P: Program>(
+    program: &P,
+    items: &mut Vec<P::Item>,
+    acc: &mut P::Value,
+) -> Result<(), P::Item>
+    requires some { 0 < length items.old.items }
+    ensures expanded { OnOk result
+        (TakesLast (P.children program.now) (P.value program.now) P.Value.combine
+        items.old.items acc.old items.new.items acc.new) }
+    ensures stays { IfErr result (λ item. with_held items.new.items (Some item) ≡ items.old.items) }
+    ensures value_stays { OnErr result (acc.new ≡ acc.old) }
+{
+    let Some(item) = items.pop() else {
+        unreachable!()
+    };
+    match program.expand(&item, items) {
+        Ok(value) => {
+            *acc = acc.combine(&value);
+            Ok(())
+        }
+        Err(_) => Err(item),
+    }
+}
+
+/// Expands up to `n` items of a list, the last one first, and answers how many. Where there is no
+/// memory it hands back the item that it was at.
+#[inline(always)]
+fn expand_some<P: Program>(
+    program: &P,
+    n: u64,
+    items: &mut Vec<P::Item>,
+    acc: &mut P::Value,
+) -> Result<u64, (u64, P::Item)>
+    requires some { 1 ≤ n }
+    ensures done { IfOk result (λ k.
+        Expands (P.children program.now) (P.value program.now) P.Value.combine
+        items.old.items acc.old k items.new.items acc.new) }
+    ensures most { IfOk result (λ k. k ≤ n) }
+    ensures short { IfOk result (λ k. k < n → items.new.items ≡ []) }
+    ensures none { IfOk result (λ k. (k ≡ 0) ↔ (items.old.items ≡ [])) }
+    ensures stopped { IfErr result (λ e.
+        Expands (P.children program.now) (P.value program.now) P.Value.combine
+        items.old.items acc.old e.0 (with_held items.new.items (Some e.1)) acc.new) }
+    ensures early { IfErr result (λ e. e.0 < n) }
+{
+    let mut done = 0;
+    while done < n && !items.is_empty() {
+        match expand_last(program, items, acc) {
+            Ok(()) => done += 1,
+            Err(item) => return Err((done, item)),
         }
     }
+    Ok(done)
 }
 
 impl<P: Program> Bag<P> for ListBag<P> {
@@ -104,14 +136,20 @@ impl<P: Program> Bag<P> for ListBag<P> {
             Ok(()) => {}
             Err(_) => return Err(Stopped { done: 0 }),
         }
-        let mut done = 0;
-        while done < n && !self.items.is_empty() {
-            match self.expand_last(program, acc) {
-                Ok(()) => done += 1,
-                Err(_) => return Err(Stopped { done }),
+        // A list of its own, whose ends the compiler can keep in registers, as it can the total.
+        let alloc = *self.items.allocator();
+        let mut items = mem::replace(&mut self.items, Vec::new(alloc));
+        let mut total = *acc;
+        let ended = expand_some(program, n, &mut items, &mut total);
+        self.items = items;
+        *acc = total;
+        match ended {
+            Ok(done) => Ok(done),
+            Err((done, item)) => {
+                self.held = Some(item);
+                Err(Stopped { done })
             }
         }
-        Ok(done)
     }
 
     fn split(&mut self) -> Result<Option<Self>, NoMemory> {

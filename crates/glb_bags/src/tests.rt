@@ -1,13 +1,10 @@
-//! Worked rows of `ListBag`, and runs of whole trees in one bag.
-ghost use Rattle.std.specs.Prelude.{◌≤◌};
-
+//! Worked rows of `ListBag`.
 use super::ListBag;
 use glb_laws::{Bag, Monoid, NoMemory, Program, SatSum, Stopped};
-use glb_tree::{Outcome, RunFault, run_one};
 use std::alloc::Global;
 use std::test::Fail;
 
-/// Binary trees: an item is a height and, below 100, the worth of each node.
+/// Binary trees: an item is a height and, below 100, the value of each node.
 #[derive(Drop)]
 struct Trees;
 
@@ -28,11 +25,11 @@ impl Program for Trees {
     ghost value_proper = { λ _ x. Prim.omega arith };
 
     fn expand(&self, item: &(u64, u64), out: &mut Vec<(u64, u64)>) -> Result<SatSum, NoMemory> {
-        let (height, worth) = *item;
+        let (height, value) = *item;
         if height > 0 {
             let old = out.len();
-            out.push((height - 1, worth))?;
-            match out.push((height - 1, worth)) {
+            out.push((height - 1, value))?;
+            match out.push((height - 1, value)) {
                 Ok(()) => {}
                 Err(_) => {
                     out.truncate(old);
@@ -40,7 +37,7 @@ impl Program for Trees {
                 }
             }
         }
-        Ok(SatSum(worth % 100))
+        Ok(SatSum(value % 100))
     }
 }
 
@@ -49,18 +46,18 @@ fn taken(alloc: Global, bag: ListBag<Trees>) -> Result<Vec<u64>, Fail> {
     let mut bag = bag;
     let mut all = Vec::new(alloc);
     for _ in 0..bag.len() {
-        let mut worth = SatSum(0);
-        bag.process(&Trees, 1, &mut worth)?;
-        all.push(worth.0)?;
+        let mut value = SatSum(0);
+        bag.process(&Trees, 1, &mut value)?;
+        all.push(value.0)?;
     }
     Ok(all)
 }
 
-/// A bag of one leaf for each of these worths.
-fn bag_of(alloc: Global, worths: &[u64]) -> Result<ListBag<Trees>, Fail> {
+/// A bag of one leaf for each of these values.
+fn bag_of(alloc: Global, values: &[u64]) -> Result<ListBag<Trees>, Fail> {
     let mut bag = ListBag::empty(alloc, &Trees);
-    for worth in worths {
-        if bag.add((0, *worth)).is_err() {
+    for value in values {
+        if bag.add((0, *value)).is_err() {
             return Err(Fail::new("no memory"));
         }
     }
@@ -94,56 +91,12 @@ fn a_merged_bag_has_the_items_of_both(rt: HostRuntime) -> Result<(), Fail> {
 
 #[test]
 fn one_item_is_not_split(rt: HostRuntime) -> Result<(), Fail> {
-    for (worths, len) in [([].as_slice(), 0), ([7].as_slice(), 1)] {
-        let mut bag = bag_of(rt.alloc(), worths)?;
+    for (values, len) in [([].as_slice(), 0), ([7].as_slice(), 1)] {
+        let mut bag = bag_of(rt.alloc(), values)?;
         assert!(rt; !bag.can_split());
         assert!(rt; bag.split()?.is_none());
         assert_eq!(rt; bag.len(), len);
     }
-    Ok(())
-}
-
-/// The outcome of a run of one tree of 15 nodes, each worth 2, or of no tree.
-fn run(
-    alloc: Global,
-    trees: usize,
-    n: u64,
-    limit: u64,
-) -> Result<Result<Outcome<SatSum>, RunFault>, Fail>
-    requires few { trees ≤ 2 }
-    requires batch { (1 ≤ n) × (n ≤ 65536) }
-    requires limited { (1 ≤ limit) × (limit ≤ 1000) }
-{
-    let roots = vec![in alloc; (3, 2); trees]?;
-    Ok(run_one::<Trees, ListBag<Trees>>(alloc, &Trees, roots, n, limit))
-}
-
-#[test]
-fn whole_trees_are_counted_up_to_the_limit(rt: HostRuntime) -> Result<(), Fail> {
-    let alloc = rt.alloc();
-    assert_eq!(rt;
-        run(alloc, 0, 1, 1)?,
-        Ok(Outcome {
-            items: 0,
-            value: SatSum(0)
-        })
-    );
-    assert_eq!(rt;
-        run(alloc, 1, 4, 15)?,
-        Ok(Outcome {
-            items: 15,
-            value: SatSum(30)
-        })
-    );
-    assert_eq!(rt;
-        run(alloc, 2, 64, 30)?,
-        Ok(Outcome {
-            items: 30,
-            value: SatSum(60)
-        })
-    );
-    assert_eq!(rt; run(alloc, 1, 4, 14)?, Err(RunFault::TooMany { items: 15 }));
-    assert_eq!(rt; run(alloc, 1, 4, 5)?, Err(RunFault::TooMany { items: 8 }));
     Ok(())
 }
 

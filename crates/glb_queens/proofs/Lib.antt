@@ -1,8 +1,8 @@
 pub mod MaskBits
-pub mod Columns
-pub mod Lanes
-pub mod Safety
-pub mod Fields
-pub mod Lists
-pub mod BoardTrees
-pub mod Placements
+pub mod ColumnsOfMasks
+pub mod ReplacedLane
+pub mod SafeColumns
+pub mod KeptFields
+pub mod MembersOfLists
+pub mod EachBoardOnce
+pub mod CountedBoards

@@ -10,7 +10,7 @@ use Rattle.std.proofs.lemmas.List.Elements.{All-head, All-tail}
 use Rattle.std.proofs.lemmas.Nat.{or_comm, or_lt, or_shr, shr-shr, pow_below}
 use Rattle.std.proofs.lemmas.Nat.Bits.{bit_at-lt, bit_at-zero, bit_at_or, bit_at_and, bit_at_not, bit_at_ones, bit_at_ones_above, bit_at-pow_same, bit_at-pow_other, same_from_bits}
 use Rattle.glb_queens.specs.Boards.{is_free}
-use Rattle.glb_queens.specs.Masks.{taken_of, rising_of, falling_of}
+use Rattle.glb_queens.specs.inner.Masks.{taken_of, rising_of, falling_of}
 
 -- one bit of a power of two
 bit_pow : (a b : ℕ) → bit_at (2 ^ a) b ≡ cond (a == b) 1 0
@@ -22,6 +22,7 @@ bit_pow a b =
           ∙ sym (ap (λ t. cond t 1 0) (ne_eqb a b other))
     ]
 
+-- a power of two has one bit
 bit_pow_back : (a b : ℕ) → bit_at (2 ^ a) b ≡ cond (b == a) 1 0
 bit_pow_back a b =
     elim (cases_eq b a) [
@@ -30,6 +31,7 @@ bit_pow_back a b =
       | inr other ↦ bit_at-pow_other a b other ∙ sym (ap (λ t. cond t 1 0) (ne_eqb b a other))
     ]
 
+-- the bits of a number without its lowest k
 bit_shifted : (m k c : ℕ) → bit_at (m / 2 ^ k) c ≡ bit_at m (c + k)
 bit_shifted m k c = ap (λ x. x % 2) (shr-shr m k c ∙ ap (λ j. m / 2 ^ j) (omega arith))
 
@@ -67,10 +69,12 @@ is_one : (b : Bool) → (cond b 1 0 == 1) ≡ b
 is_one true = refl
 is_one false = refl
 
+-- a column below n is free where its bit is in none of the masks
 pub free_below : (columns : List ℕ) (n c : ℕ) → n < 17
     → bit_or (bit_or (taken_of columns) (rising_of columns)) (falling_of columns) < 2 ^ 32
     → (bit_at (bit_and (bit_not w32
-    (bit_or (bit_or (taken_of columns) (rising_of columns)) (falling_of columns))) (2 ^ n - 1)) c == 1) ≡
+    (bit_or (bit_or (taken_of columns) (rising_of columns)) (falling_of columns)))
+    (2 ^ n - 1)) c == 1) ≡
     (nat_lt c n && is_free columns c)
 free_below columns n c small fits =
     let t = taken_of columns in
@@ -82,10 +86,12 @@ free_below columns n c small fits =
           let one : bit_at (2 ^ n - 1) c ≡ 1 = bit_at_ones n c lt in
           let none : bit_at (bit_not w32 all) c ≡ cond (is_free columns c) 1 0 =
           bit_at_not w32 all c fits (omega arith)
-          ∙ ap (λ v. 1 - v) (bit_at_or (bit_or t r) f c ∙ ap (λ v. max v (bit_at f c)) (bit_at_or t r c))
+          ∙ ap (λ v. 1 - v) (bit_at_or (bit_or t r) f c
+          ∙ ap (λ v. max v (bit_at f c)) (bit_at_or t r c))
           ∙ free_by_masks columns c
           in
-          let least : min (bit_at (bit_not w32 all) c) (bit_at (2 ^ n - 1) c) ≡ bit_at (bit_not w32 all) c
+          let least : min (bit_at (bit_not w32 all) c) (bit_at (2 ^ n - 1) c)
+          ≡ bit_at (bit_not w32 all) c
           = omega (arith, bit_at-lt (bit_not w32 all) c) in
           ap (λ v. v == 1) (bit_at_and (bit_not w32 all) (2 ^ n - 1) c ∙ least ∙ none)
           ∙ is_one (is_free columns c) ∙ sym (ap (λ b. b && is_free columns c) (lt-ltb c n lt))
@@ -96,9 +102,12 @@ free_below columns n c small fits =
           ∙ sym (ap (λ b. b && is_free columns c) (le-ltb c n ge))
     ]
 
-pub free_mask : (columns : List ℕ) (n t r f : ℕ) → n < 17 → t ≡ taken_of columns → r ≡ rising_of columns
+-- the mask of the free columns
+pub free_mask : (columns : List ℕ) (n t r f : ℕ) → n < 17 → t ≡ taken_of columns → r
+    ≡ rising_of columns
     → f ≡ falling_of columns → t < 2 ^ 32 → r < 2 ^ 32 → f < 2 ^ 32
-    → (c : ℕ) → (bit_at (bit_and (4294967295 - bit_or (bit_or t r) f) (1 * 2 ^ n % 4294967296 - 1)) c ==
+    → (c : ℕ) → (bit_at (bit_and (4294967295 - bit_or (bit_or t r) f)
+    (1 * 2 ^ n % 4294967296 - 1)) c ==
     1) ≡ (nat_lt c n && is_free columns c)
 free_mask columns n t r f small t_is r_is f_is t_fits r_fits f_fits c =
     let low : 2 ^ n < 2 ^ 17 = pow_below n 17 small in
@@ -119,6 +128,7 @@ or_assoc a b c =
     (bit_at c i) = omega arith in
     x ∙ z ∙ sym y)
 
+-- two masks, moved up by one place
 or_double : (a b : ℕ) → bit_or (a * 2) (b * 2) ≡ bit_or a b * 2
 or_double a b =
     let x : a * 2 / 2 ≡ a = omega arith in
@@ -134,6 +144,7 @@ taken_push [] c = or_comm (2 ^ c) 0
 taken_push (a ∷ columns) c = ap (bit_or (2 ^ a)) (taken_push columns c)
     ∙ or_assoc (2 ^ a) (taken_of columns) (2 ^ c)
 
+-- the rising mask with one queen more
 pub rising_push : (columns : List ℕ) (c : ℕ)
     → rising_of (columns ++ c ∷ []) ≡ bit_or (rising_of columns) (2 ^ c) * 2
 unfolding rising_of
@@ -147,6 +158,7 @@ rising_push (a ∷ columns) c =
     ∙ or_double (2 ^ (a + rows)) (bit_or (rising_of columns) (2 ^ c))
     ∙ ap (λ v. v * 2) (or_assoc (2 ^ (a + rows)) (rising_of columns) (2 ^ c))
 
+-- the falling mask with one queen more
 pub falling_push : (columns : List ℕ) (c : ℕ)
     → falling_of (columns ++ c ∷ []) ≡ bit_or (falling_of columns) (2 ^ c) / 2
 unfolding falling_of
@@ -154,7 +166,8 @@ falling_push [] c = or_zero_r (2 ^ c / 2 ^ 1) ∙ ap (λ v. v / 2) (sym (or_zero
 falling_push (a ∷ columns) c =
     let rows = length columns + 1 in
     let place : length (columns ++ c ∷ []) + 1 ≡ rows + 1 = omega (arith, length_push columns c) in
-    ap₂ bit_or (ap (λ k. 2 ^ a / 2 ^ k) place ∙ sym (shr-shr (2 ^ a) rows 1)) (falling_push columns c)
+    ap₂ bit_or (ap (λ k. 2 ^ a / 2 ^ k) place ∙ sym (shr-shr (2 ^ a) rows 1))
+    (falling_push columns c)
     ∙ sym (or_shr (2 ^ a / 2 ^ rows) (bit_or (falling_of columns) (2 ^ c)) 1)
     ∙ ap (λ v. v / 2) (or_assoc (2 ^ a / 2 ^ rows) (falling_of columns) (2 ^ c))
 

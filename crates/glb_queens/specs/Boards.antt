@@ -35,7 +35,8 @@ are_apart a b rows = not (a == b) && (not (a + rows == b) && not (b + rows == a)
 -- whether no queen attacks one in `column` of the next row
 unfoldable pub is_free : List ℕ → ℕ → Bool
 is_free [] column = true
-is_free (first ∷ columns) column = are_apart first column (length columns + 1) && is_free columns column
+is_free (first ∷ columns) column = are_apart first column
+    (length columns + 1) && is_free columns column
 
 -- the safe lists with one more column, by rising column, and none at length n
 unfoldable pub boards_below : ℕ → List ℕ → List (List ℕ)
@@ -45,11 +46,13 @@ boards_below n columns =
     []
 
 -- 1 at length n, and 0 else
-abbrev pub worth : ℕ → List ℕ → SatSum
-worth n columns = sat_sum (cond (length columns == n) 1 0)
+abbrev pub value_of : ℕ → List ℕ → SatSum
+value_of n columns = sat_sum (cond (length columns == n) 1 0)
 
-pub worth_fits : (n : ℕ) (columns : List ℕ) → (worth n columns).0 < 2 ^ 64
-worth_fits n columns = cond_both (length columns == n) 1 0 (λ v. v < 2 ^ 64) (λ _. lit< tt) (λ _. lit< tt)
+-- the value of a board is a number of 64 bits
+pub value_is_proper : (n : ℕ) (columns : List ℕ) → (value_of n columns).0 < 2 ^ 64
+value_is_proper n columns = cond_both (length columns == n) 1 0 (λ v. v < 2 ^ 64) (λ _. lit< tt)
+    (λ _. lit< tt)
 
 -- how many of the boards have n queens
 abbrev pub count_full : ℕ → List (List ℕ) → ℕ

@@ -1,4 +1,4 @@
 pub mod Boards
-pub mod Masks
+pub mod inner
 pub use Rattle.glb_laws.specs.Bounded
 pub use Rattle.glb_laws.specs.Tree

@@ -1,5 +1,6 @@
-//! A board with a queen in each of its first rows. Beside the columns it keeps three masks, one bit a
-//! column: those that have a queen, and those of the next row that queens attack along a diagonal.
+//! A board with a queen in each of its first rows. Beside the columns it keeps three masks, one bit
+//! a column: those that have a queen, and those of the next row that queens attack along a
+//! diagonal.
 ghost use Rattle.std.specs.Prelude.{◌≡◌, ℕ, ◌+◌, ◌<◌, ◌==◌, ◌&&◌, true, List, [], ◌∷◌, ◌++◌, length, nat_lt, slice_set};
 ghost use Rattle.std.specs.Int.{bit_at};
 ghost use Rattle.glb_queens.specs.Boards.{IsSafe, is_free};
@@ -8,11 +9,13 @@ use std::marker::Model;
 use std::simd::prelude::*;
 
 /// Queens of which none attacks another, by the column of the queen of each row.
+// The four numbers do not lie side by side, or the compiler would read them back as one of 16
+// bytes, and such a load has to wait for four stores of 4 bytes.
 #[derive(Clone, Copy)]
 pub struct Board {
-    columns: [u8; 16],
     rows: u32,
     taken: u32,
+    columns: [u8; 16],
     rising: u32,
     falling: u32,
 }
@@ -22,7 +25,7 @@ impl Model for Board {
 
     ghost Value = { List ℕ };
 
-    ghost use Rattle.glb_queens.specs.Masks.{IsKept, fields_of, same_fields};
+    ghost use Rattle.glb_queens.specs.inner.Masks.{IsKept, fields_of, same_fields};
 
     ghost view = { λ b. take b.rows b.columns };
 
@@ -39,9 +42,9 @@ impl Board {
         ensures { result ≡ [] }
     {
         Board {
-            columns: [0; 16],
             rows: 0,
             taken: 0,
+            columns: [0; 16],
             rising: 0,
             falling: 0,
         }
@@ -82,16 +85,16 @@ impl Board {
     {
         let queen = 1u32 << column;
         Board {
-            columns: with_column(self.columns, self.rows, column),
             rows: self.rows + 1,
             taken: self.taken | queen,
+            columns: with_column(self.columns, self.rows, column),
             rising: (self.rising | queen) << 1,
             falling: (self.falling | queen) >> 1,
         }
     }
 }
 
-// The byte is put in within a register: a load of all 16 after a store of one would wait for it.
+/// The byte is put in within a register: a load of all 16 after a store of one would wait for it.
 #[inline(always)]
 fn with_column(columns: [u8; 16], row: u32, column: u32) -> [u8; 16]
     requires row { row < 16 }

@@ -1,5 +1,5 @@
-//! Placements of n queens on a board of n rows and columns, none of which attacks another: the tree of
-//! partial boards, filled row by row.
+//! Placements of n queens on a board of n rows and columns, none of which attacks another: the tree
+//! of partial boards, filled row by row.
 #![tactic(auto)]
 
 mod board;

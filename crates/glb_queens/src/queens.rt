@@ -1,15 +1,16 @@
 //! The tree of boards, as a program.
-ghost use Rattle.std.specs.Prelude.{◌≡◌, ℕ, ◌^◌, ◌-◌, ◌<◌, ◌≤◌, ◌==◌, true, min, List, [], ◌∷◌, ◌++◌, length, map, OnOk, OnErr, cond};
+ghost use Rattle.std.specs.Prelude.{◌≡◌, ℕ, ◌^◌, ◌-◌, ◌+◌, ◌<◌, ◌≤◌, ◌==◌, true, min, List, [], ◌∷◌, ◌++◌, length, map, OnOk, OnErr, IfOk, IfErr, cond, vec_len, vec_capacity};
 ghost use Rattle.std.specs.Int.{bit_at};
 ghost use Rattle.glb_laws.specs.Bounded.{sat_sum};
 ghost use Rattle.glb_laws.specs.Tree.{IsSmall, nodes, answer};
-ghost use Rattle.glb_queens.specs.Boards.{IsEachBoardOnce, arrangements, boards_below, count_full, is_free, worth};
-ghost use Rattle.glb_queens.specs.Masks.{columns_in};
-ghost use Rattle.glb_queens.specs.Boards.{worth_fits};
+ghost use Rattle.glb_queens.specs.Boards.{IsEachBoardOnce, arrangements, boards_below, count_full, is_free, value_of};
+ghost use Rattle.glb_queens.specs.inner.Masks.{columns_in};
+ghost use Rattle.glb_queens.specs.Boards.{value_is_proper};
 
 use super::board::Board;
 use glb_laws::{Monoid, NoMemory, Program, SatSum};
 use std::marker::Model;
+use std::mem;
 
 /// Placements of n queens, for n from 1 to 16.
 #[derive(Clone, Copy)]
@@ -30,6 +31,7 @@ impl Model for Queens {
 }
 
 impl Queens {
+    /// The placements of n queens on a board of n rows and columns.
     pub fn new(n: u32) -> Queens
         requires { (1 ≤ n) × (n ≤ 16) }
         ensures { result ≡ n }
@@ -37,8 +39,8 @@ impl Queens {
         Queens { n }
     }
 
-    /// The board without queens. The nodes of its tree are the safe lists of at most n columns below n,
-    /// each once, and the answer is how many of them have n columns.
+    /// The board without queens. The nodes of its tree are the safe lists of at most n columns
+    /// below n, each once, and the answer is how many of them have n columns.
     pub fn root(&self) -> Board
         ensures root { result ≡ [] }
         ensures nodes { (most : ℕ) → self.now ≤ most
@@ -46,7 +48,7 @@ impl Queens {
         ensures small { IsSmall (boards_below self.now) (result ∷ []) (arrangements self.now) }
         ensures bound { arrangements self.now < 2 ^ 46 }
         ensures answer { (most : ℕ)
-            → answer (boards_below self.now) (worth self.now) ⟦<SatSum as Monoid>⟧.unit
+            → answer (boards_below self.now) (value_of self.now) ⟦<SatSum as Monoid>⟧.unit
             ⟦<SatSum as Monoid>⟧.combine (result ∷ []) most
             ≡ sat_sum (count_full self.now (nodes (boards_below self.now) (result ∷ []) most)) }
     {
@@ -62,7 +64,7 @@ impl Program for Queens {
 
     ghost children = { λ n columns. boards_below n columns };
 
-    ghost value = { λ n columns. worth n columns };
+    ghost value = { λ n columns. value_of n columns };
 
     fn expand(&self, board: &Board, out: &mut Vec<Board>) -> Result<SatSum, NoMemory> {
         if board.rows() < self.n {
@@ -72,10 +74,46 @@ impl Program for Queens {
         Ok(SatSum((board.rows() == self.n) as u64))
     }
 
-    ghost value_proper = { worth_fits };
+    ghost value_proper = { value_is_proper };
 }
 
-// The lowest bit is the next column.
+/// A list with room for the boards that stand one row below a board, or the list itself.
+// It takes the list by value, and stands apart: a list that is lent to a call stays in memory.
+#[inline(never)]
+fn with_room(boards: Vec<Board>) -> Result<Vec<Board>, Vec<Board>>
+    ensures items { IfOk result (λ roomy. roomy.items ≡ boards.items) }
+    ensures room { IfOk result (λ roomy. vec_len roomy + 16 ≤ vec_capacity roomy) }
+    ensures refused { IfErr result (λ full. full.items ≡ boards.items) }
+{
+    let mut boards = boards;
+    match boards.reserve(16) {
+        Ok(()) => Ok(boards),
+        Err(_) => Err(boards),
+    }
+}
+
+#[inline(always)]
+fn take_room(out: &mut Vec<Board>) -> Result<(), NoMemory>
+    ensures items { out.new.items ≡ out.old.items }
+    ensures room { OnOk result (vec_len out.new + 16 ≤ vec_capacity out.new) }
+{
+    if out.capacity() - out.len() >= 16 {
+        return Ok(());
+    }
+    let alloc = *out.allocator();
+    match with_room(mem::replace(out, Vec::new(alloc))) {
+        Ok(roomy) => {
+            *out = roomy;
+            Ok(())
+        }
+        Err(full) => {
+            *out = full;
+            Err(NoMemory)
+        }
+    }
+}
+
+/// Appends the board with a further queen in each free column, the lowest bit first.
 #[inline(always)]
 fn push_boards(board: &Board, free: u32, out: &mut Vec<Board>) -> Result<(), NoMemory>
     requires rows { length board.now < 16 }
@@ -85,15 +123,15 @@ fn push_boards(board: &Board, free: u32, out: &mut Vec<Board>) -> Result<(), NoM
         ≡ out.old.items ++ map (λ column. board.now ++ column ∷ []) (columns_in free)) }
     ensures unchanged { OnErr result (out.new.items ≡ out.old.items) }
 {
-    let start = out.len();
     let mut left = free;
+    if left == 0 {
+        return Ok(());
+    }
+    take_room(out)?;
     'columns: while left != 0 {
         let column = left.trailing_zeros();
-        left &= !(1u32 << column);
-        if out.push(board.with_queen(column)).is_err() {
-            out.truncate(start);
-            return Err(NoMemory);
-        }
+        left &= left - 1;
+        out.push_reserved(board.with_queen(column));
     }
     Ok(())
 }

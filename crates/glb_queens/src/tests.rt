@@ -31,7 +31,7 @@ fn the_empty_board_has_a_child_for_each_column(rt: HostRuntime) -> Result<(), Fa
     Ok(())
 }
 
-// The number of boards, and what they are worth together.
+// The number of boards, and their value together.
 fn walk(alloc: Global, n: u32) -> Result<(u64, u64), Fail>
     requires { (1 ≤ n) × (n ≤ 16) }
 {

@@ -1,5 +1,5 @@
 use Rattle.std.proofs.Common.{◌≡◌, length, rules}
-use Rattle.glb_queens.proofs.Lanes.{lane_replaced}
+use Rattle.glb_queens.proofs.ReplacedLane.{lane_replaced}
 use Rattle.glb_queens.proofs.board.with_column.Goals as goal
 
 pub returns : goal.returns

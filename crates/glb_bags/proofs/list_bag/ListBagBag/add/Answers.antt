@@ -1,4 +1,4 @@
-use Rattle.glb_bags.proofs.Taking.{pushed}
+use Rattle.glb_bags.proofs.ItemsAtTheEnd.{pushed}
 use Rattle.glb_bags.proofs.list_bag.ListBagBag.add.Goals as goal
 
 pub returns-in-Ok-clause-added : goal.returns-in-Ok-clause-added

@@ -1,4 +1,4 @@
-use Rattle.glb_queens.proofs.Fields.{kept_empty}
+use Rattle.glb_queens.proofs.KeptFields.{kept_empty}
 use Rattle.glb_queens.proofs.board.Board.empty.Goals as goal
 
 pub invariant_of-result : goal.invariant_of-result

@@ -1,7 +1,7 @@
 use Rattle.std.proofs.Common.{◌≡◌, ◌+◌, ◌*◌, ◌/◌, ◌%◌, ◌^◌, ◌<◌, true, length, sym, subst, bit_or}
 use Rattle.glb_queens.specs.Boards.{is_free}
-use Rattle.glb_queens.specs.Masks.{IsKept}
-use Rattle.glb_queens.proofs.Fields.{kept_push}
+use Rattle.glb_queens.specs.inner.Masks.{IsKept}
+use Rattle.glb_queens.proofs.KeptFields.{kept_push}
 use Rattle.glb_queens.proofs.board.Board.with_queen.Goals as goal
 
 pub invariant_of-result : goal.invariant_of-result

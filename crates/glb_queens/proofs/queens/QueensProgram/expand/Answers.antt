@@ -1,7 +1,7 @@
 use Rattle.std.proofs.Common.{◌≡◌, ◌<◌, ◌≤◌, ◌++◌, ℕ, length, ◌==◌, ◌&&◌, nat_lt, ap, sym, subst, ◌∙◌, arith, append-nil}
 use Rattle.std.specs.Int.{bit_at}
 use Rattle.glb_queens.specs.Boards.{is_free}
-use Rattle.glb_queens.proofs.BoardTrees.{below_none, below_mask}
+use Rattle.glb_queens.proofs.EachBoardOnce.{below_none, below_mask}
 use Rattle.glb_queens.proofs.queens.QueensProgram.expand.Goals as goal
 
 pub returns-then-rows-self-clause-appended : goal.returns-then-rows-self-clause-appended

@@ -7,11 +7,13 @@ use Rattle.std.proofs.lemmas.List.Elements.{All-nil, All-push}
 use Rattle.std.proofs.lemmas.Nat.{or_lt, pow_below}
 use Rattle.glb_queens.specs.declared.board.Board.TheInside.{Inside}
 use Rattle.glb_queens.specs.Boards.{IsSafe, is_free}
-use Rattle.glb_queens.specs.Masks.{IsKept, taken_of, rising_of, falling_of}
+use Rattle.glb_queens.specs.inner.Masks.{IsKept, taken_of, rising_of, falling_of}
 use Rattle.glb_queens.proofs.MaskBits.{taken_push, rising_push, falling_push, rising_below}
-use Rattle.glb_queens.proofs.Safety.{safe_none, safe_push}
+use Rattle.glb_queens.proofs.SafeColumns.{safe_none, safe_push}
 
-pub kept_empty : IsKept (record { columns = replicate 16 0; rows = 0; taken = 0; rising = 0; falling = 0 })
+-- the fields of the board without queens
+pub kept_empty : IsKept
+    (record { columns = replicate 16 0; rows = 0; taken = 0; rising = 0; falling = 0 })
 unfolding taken_of rising_of falling_of
 kept_empty = record {
   size = refl;
@@ -38,8 +40,10 @@ queen_bit : (c : ℕ) → c < 16 → 1 * 2 ^ c % 4294967296 ≡ 2 ^ c
 queen_bit c small = let low = pow_below c 16 small in omega arith
 
 -- below 16 rows the shift to the left loses no bit
-rising_doubled : (columns : List ℕ) (c : ℕ) → All (λ column. column < 16) columns → length columns < 16
-    → c < 16 → bit_or (rising_of columns) (2 ^ c) * 2 % 4294967296 ≡ bit_or (rising_of columns) (2 ^ c) * 2
+rising_doubled : (columns : List ℕ) (c : ℕ) → All (λ column. column < 16) columns
+    → length columns < 16
+    → c < 16 → bit_or (rising_of columns) (2 ^ c) * 2 % 4294967296
+    ≡ bit_or (rising_of columns) (2 ^ c) * 2
 rising_doubled columns c below room small =
     let bound = rising_below columns below in
     let half : 2 ^ (16 + length columns) ≤ 2 ^ 31 =
@@ -49,6 +53,7 @@ rising_doubled columns c below room small =
     or_lt 31 (rising_of columns) (2 ^ c) (omega arith) (omega arith) in
     mod-eq_of_lt (omega arith)
 
+-- the fields of a board with one queen more
 pub kept_push : (b : Inside) (c : ℕ) → IsKept b → length (take b.rows b.columns) < 16 → c < 16
     → is_free (take b.rows b.columns) c ≡ true
     → IsKept (record {

@@ -4,6 +4,7 @@ use Rattle.std.proofs.lemmas.Bool.{and_parts, and_from, eqb-false, ne_eqb, not-t
 use Rattle.std.proofs.lemmas.List.{length_push, length-append, get_or_append_left, get_or_push}
 use Rattle.glb_queens.specs.Boards.{AreApart, IsSafe, are_apart, is_free}
 
+-- the test of two queens says that they are apart
 apart_from : (a b rows : ℕ) → are_apart a b rows ≡ true → AreApart a b rows
 apart_from a b rows h =
     let p = and_parts (not (a == b)) (not (a + rows == b) && not (b + rows == a)) h in
@@ -13,6 +14,7 @@ apart_from a b rows h =
       eqb-false (b + rows) a (not-true (b + rows == a) q.1),
     )
 
+-- two queens that are apart pass the test
 test_from : (a b rows : ℕ) → AreApart a b rows → are_apart a b rows ≡ true
 test_from a b rows h =
     and_from _ _ (not_from_false (a == b) (ne_eqb a b h.0))
@@ -35,6 +37,7 @@ apart_where_free (a ∷ columns) c h (suc i) lt =
     (apart_where_free columns c
     (and_parts (are_apart a c (length columns + 1)) (is_free columns c) h).1 i (omega arith))
 
+-- a column that is apart from all queens is free
 pub free_where_apart : (columns : List ℕ) (c : ℕ)
     → ((i : ℕ) → i < length columns → AreApart (get_or columns i 0) c (length columns - i))
     → is_free columns c ≡ true
@@ -49,9 +52,11 @@ free_where_apart (a ∷ columns) c h =
     and_from _ _ (test_from a c (length columns + 1) (subst (AreApart a c) e (h 0 (omega arith))))
     (free_where_apart columns c rest)
 
+-- no queens are safe
 pub safe_none : IsSafe []
 safe_none i j lt within = absurd (omega arith)
 
+-- safe queens with one in a free column are safe
 pub safe_push : (columns : List ℕ) (c : ℕ) → IsSafe columns → is_free columns c ≡ true
     → IsSafe (columns ++ c ∷ [])
 safe_push columns c safe free i j lt within =
@@ -72,14 +77,17 @@ safe_push columns c safe free i j lt within =
           (subst (λ b. AreApart (get_or columns i 0) b (j - i)) (sym there) apart)
     ]
 
+-- the first of safe queens are safe
 pub safe_front : (columns more : List ℕ) → IsSafe (columns ++ more) → IsSafe columns
 safe_front columns more safe i j lt within =
     let size = length-append columns more in
     let here = get_or_append_left columns more 0 i (omega arith) in
     let there = get_or_append_left columns more 0 j within in
     subst (λ a. AreApart a (get_or columns j 0) (j - i)) here
-    (subst (λ b. AreApart (get_or (columns ++ more) i 0) b (j - i)) there (safe i j lt (omega arith)))
+    (subst (λ b. AreApart (get_or (columns ++ more) i 0) b (j - i)) there
+    (safe i j lt (omega arith)))
 
+-- the last column of safe queens was free
 pub free_last : (columns : List ℕ) (c : ℕ) → IsSafe (columns ++ c ∷ []) → is_free columns c ≡ true
 free_last columns c safe =
     free_where_apart columns c (λ i lt.

@@ -59,7 +59,8 @@ same_fields b kept =
     in
     let made : List ℕ → ℕ → ℕ → ℕ → ℕ
     → Inside = λ c n t r f. record { columns = c; rows = n; taken = t; rising = r; falling = f } in
-    ap (λ c. made c (length columns) (taken_of columns) (rising_of columns) (falling_of columns)) all
+    ap (λ c. made c (length columns) (taken_of columns) (rising_of columns)
+    (falling_of columns)) all
     ∙ ap (λ n. made b.columns n (taken_of columns) (rising_of columns) (falling_of columns)) rows
     ∙ ap (λ t. made b.columns b.rows t (rising_of columns) (falling_of columns)) (sym kept.taken)
     ∙ ap (λ r. made b.columns b.rows b.taken r (falling_of columns)) (sym kept.rising)

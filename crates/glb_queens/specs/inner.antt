@@ -1,0 +1,2 @@
+-- What the board's own fields hold, for the contracts of private functions.
+pub mod Masks
