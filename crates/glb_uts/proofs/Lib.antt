@@ -1,1 +1,3 @@
+pub mod ChildrenInARow
 pub mod Messages
+pub mod TreeTotals

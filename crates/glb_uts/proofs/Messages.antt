@@ -4,10 +4,12 @@ use Rattle.std.proofs.lemmas.List.{take_at, drop_at, drop_all}
 use borrow.Rule.Slice.PartMut.{put_mid}
 use mir.Val.{bool_byte}
 
+-- 20 bytes and 4 that are written into a message, one part after the other
 pub two_parts : (a zeros b p q : List ℕ) → length p ≡ 20 → length zeros ≡ 4 → a ≡ p → b ≡ q
     → put_mid 20 4 (a ++ zeros) b ≡ p ++ q
 two_parts a zeros b p q size rest e f =
-    let none : drop 4 (drop 20 (a ++ zeros)) ≡ [] = ap (drop 4) (drop_at a zeros 20 (ap length e ∙ size))
+    let none : drop 4 (drop 20 (a ++ zeros))
+    ≡ [] = ap (drop 4) (drop_at a zeros 20 (ap length e ∙ size))
     ∙ drop_all 4 zeros (omega arith) in
     ap₂ (λ u v. u ++ v) (take_at a zeros 20 (ap length e ∙ size) ∙ e)
     (ap₂ (λ u v. u ++ v) f none ∙ append-nil q)

@@ -12,7 +12,8 @@ use Rattle.glb_uts.specs.declared.node.Node.{Node}
 use Rattle.glb_uts.specs.declared.uts.Uts.{Uts}
 use Rattle.glb_uts.specs.Descriptors.{child_descriptor, draw}
 
--- how many children a node has: none at depth 2^41 or more, B0 at the root, and M where the draw is below Q
+-- how many children a node has: none at depth 2^41 or more, B0 at the root, and M where the draw is
+-- below Q
 abbrev pub fan : Uts → Node → ℕ
 fan uts node =
     cond (nat_le (2 ^ 41) node.depth) 0
@@ -31,14 +32,15 @@ unfoldable pub children : Uts → Node → List Node
 children uts node = map (child node) (range_with_len 0 (fan uts node))
 
 -- one node, one leaf where it has no children, and its depth
-abbrev pub worth : Uts → Node → Both SatSum (Both SatSum Greatest)
-worth uts node =
+abbrev pub value_of : Uts → Node → Both SatSum (Both SatSum Greatest)
+value_of uts node =
     both (sat_sum 1) (both (sat_sum (cond (fan uts node == 0) 1 0))
     (greatest (min node.depth (2 ^ 64 - 1))))
 
-pub worth_fits : (uts : Uts) (node : Node) → ((worth uts node).0.0 < 2 ^ 64)
-    × (((worth uts node).1.0.0 < 2 ^ 64) × ((worth uts node).1.1.0 < 2 ^ 64))
-worth_fits uts node = (
+-- the numbers of a value are numbers of 64 bits
+pub value_is_proper : (uts : Uts) (node : Node) → ((value_of uts node).0.0 < 2 ^ 64)
+    × (((value_of uts node).1.0.0 < 2 ^ 64) × ((value_of uts node).1.1.0 < 2 ^ 64))
+value_is_proper uts node = (
   lit< tt,
   (
     cond_both (fan uts node == 0) 1 0 (λ v. v < 2 ^ 64) (λ _. lit< tt) (λ _. lit< tt),

@@ -14,5 +14,6 @@ child_descriptor parent number = sha1 (parent ++ to_be_bytes w32 number)
 -- the number of bytes 16 to 19, the most significant first, without its top bit
 abbrev pub draw : List ℕ → ℕ
 draw descriptor =
-    from_be_bytes w32 (slice_index descriptor 16 ∷ slice_index descriptor 17 ∷ slice_index descriptor 18
+    from_be_bytes w32
+    (slice_index descriptor 16 ∷ slice_index descriptor 17 ∷ slice_index descriptor 18
     ∷ slice_index descriptor 19 ∷ []) % 2 ^ 31

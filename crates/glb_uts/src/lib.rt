@@ -1,7 +1,8 @@
-//! Binomial trees of the benchmark UTS: from each node's descriptor, by SHA-1, follow how many children
-//! it has and what their descriptors are.
+//! Binomial trees of the benchmark UTS: from each node's descriptor, by SHA-1, follow how many
+//! children it has and what their descriptors are.
 #![tactic(auto)]
 
+mod children;
 mod node;
 #[cfg(test)]
 mod tests;

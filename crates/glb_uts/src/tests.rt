@@ -5,7 +5,7 @@ use sha1::Sha1;
 use std::alloc::Global;
 use std::test::Fail;
 
-type Worth = Both<SatSum, Both<SatSum, Greatest>>;
+type Value = Both<SatSum, Both<SatSum, Greatest>>;
 
 #[test]
 fn hashes_are_those_of_the_standard(rt: HostRuntime) {
@@ -59,6 +59,29 @@ fn the_root_has_its_own_number_of_children(rt: HostRuntime) -> Result<(), Fail> 
 }
 
 #[test]
+fn children_of_every_width_have_the_digests_of_their_numbers(rt: HostRuntime) -> Result<(), Fail> {
+    let mut out = Vec::new(rt.alloc());
+    for width in 0..36u32 {
+        let uts = Uts::new(width, 8, 0, 42);
+        let root = uts.root();
+        out.clear();
+        if uts.expand(&root, &mut out).is_err() {
+            return Err(Fail::from("no memory"));
+        }
+        assert_eq!(rt; out.len(), width as usize);
+        let mut number = 0u32;
+        for node in &out {
+            let mut hasher = Sha1::new();
+            hasher.update(&root.descriptor);
+            hasher.update(&number.to_be_bytes());
+            assert_eq!(rt; node.descriptor, hasher.finalize());
+            number = number.wrapping_add(1);
+        }
+    }
+    Ok(())
+}
+
+#[test]
 fn no_node_is_deeper_than_two_to_the_41(rt: HostRuntime) -> Result<(), Fail> {
     let uts = Uts::new(3, 2, 2147483648, 42);
     let descriptor = uts.root().descriptor;
@@ -83,12 +106,12 @@ fn no_node_is_deeper_than_two_to_the_41(rt: HostRuntime) -> Result<(), Fail> {
     Ok(())
 }
 
-// The nodes of a tree, and what they are worth together.
-fn walk(alloc: Global, uts: &Uts) -> Result<(u64, Worth), Fail> {
+// The nodes of a tree, and their value together.
+fn walk(alloc: Global, uts: &Uts) -> Result<(u64, Value), Fail> {
     let mut left = Vec::new(alloc);
     left.push(uts.root())?;
     let mut items = 0u64;
-    let mut total = Worth::unit();
+    let mut total = Value::unit();
     for _ in 0..10000000 {
         let Some(node) = left.pop() else {
             return Ok((items, total));
@@ -113,8 +136,8 @@ fn trees_have_the_known_numbers(rt: HostRuntime) -> Result<(), Fail> {
         (Uts::new(2000, 8, 268167021, 42), 4112897, 3599034, 1572),
     ];
     for (uts, nodes, leaves, depth) in trees {
-        let worth = Both(SatSum(nodes), Both(SatSum(leaves), Greatest(depth)));
-        assert_eq!(rt; walk(rt.alloc(), &uts)?, (nodes, worth));
+        let value = Both(SatSum(nodes), Both(SatSum(leaves), Greatest(depth)));
+        assert_eq!(rt; walk(rt.alloc(), &uts)?, (nodes, value));
     }
     Ok(())
 }

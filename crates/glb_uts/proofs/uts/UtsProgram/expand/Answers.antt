@@ -9,11 +9,12 @@ pub returns-clause-appended : goal.returns-clause-appended
 unfolding children
 returns-clause-appended c =
     c.in_ok-push_children.ensures.appended
-    ∙ ap (λ n. c.args.out.now.items ++ map (child c.args.node.now) (range_with_len 0 n)) c.fan-fan.ensures
+    ∙ ap (λ n. c.args.out.now.items
+    ++ map (child c.args.node.now) (range_with_len 0 n)) c.fan-fan.ensures
 
 pub returns-clause-value : goal.returns-clause-value
 returns-clause-value c =
-    c.worth_of.ensures
+    c.node_value.ensures
     ∙ ap (λ n. both (sat_sum 1)
     (both (sat_sum (cond (n == 0) 1 0)) (greatest (min c.args.node.now.depth (2 ^ 64 - 1)))))
     c.fan-fan.ensures

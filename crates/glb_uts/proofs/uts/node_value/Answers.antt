@@ -2,7 +2,7 @@ use Rattle.std.proofs.Common.{◌≡◌, ◌-◌, ◌^◌, ◌==◌, min, ap₂,
 use Rattle.glb_laws.specs.Bounded.{sat_sum, greatest}
 use Rattle.glb_laws.specs.Pair.{both}
 use Rattle.glb_uts.proofs.Messages.{byte_is}
-use Rattle.glb_uts.proofs.uts.worth_of.Goals as goal
+use Rattle.glb_uts.proofs.uts.node_value.Goals as goal
 
 pub returns : goal.returns
 returns c =

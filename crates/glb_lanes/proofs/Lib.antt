@@ -1,0 +1,3 @@
+mod LanewiseOperators
+mod WordsAndRounds
+mod DigestOfOneBlock

@@ -1,0 +1,19 @@
+use Rattle.std.proofs.Common.{◌≡◌, List, ℕ, [], slice_index, ◌∙◌, sym}
+use Rattle.std.proofs.Math.ListN.{get_or-map}
+use Rattle.sha1.proofs.Schedule.{round_fn_parity, round_constant_parity}
+use Rattle.sha1.specs.Sha1.{parity}
+use Rattle.glb_lanes.specs.inner.Lanes.{lane}
+use Rattle.glb_lanes.proofs.WordsAndRounds.{one_round}
+use Rattle.glb_lanes.proofs.rounds.parity_step.Goals as goal
+
+pub returns : goal.returns
+returns g c j t lt low high h ws from word =
+    let at = λ (v : List ℕ). slice_index v j in
+    let v = lane j c.args.v in
+    let read : slice_index c.parity-f.result j
+    ≡ parity (slice_index v 1) (slice_index v 2) (slice_index v 3) =
+    rw (get_or-map at c.args.v 1 [], get_or-map at c.args.v 2 [], get_or-map at c.args.v 3 [])
+    (c.parity-f.ensures j lt) in
+    one_round h ws v t _ _ _ _ from
+    (read ∙ sym (round_fn_parity t (slice_index v 1) (slice_index v 2) (slice_index v 3) low high))
+    (sym (round_constant_parity t low high)) word (c.round.ensures j lt)

@@ -1,0 +1,2 @@
+pub mod inner
+pub use Rattle.sha1.specs.Sha1
