@@ -1,13 +1,16 @@
 -- The distance as a function is the least length of a walk, in every graph within the limits.
-use Rattle.std.proofs.Common.{◌≡◌, ◌≢◌, ℕ, zero, suc, ◌+◌, ◌<◌, ◌≤◌, ◌⊎◌, List, [], ◌∷◌, ◌++◌, length, get_or, set, inl, inr, refl, sym, ◌∙◌, subst, arith, None, Some, eq-eqb}
+use Rattle.std.proofs.Common.{◌≡◌, ◌≢◌, ℕ, zero, suc, ◌+◌, ◌<◌, ◌≤◌, ◌⊎◌, List, [], ◌∷◌, ◌++◌}
+use Rattle.std.proofs.Common.{length, get_or, set, inl, inr, refl, sym, ◌∙◌, subst, arith, None}
+use Rattle.std.proofs.Common.{Some, eq-eqb}
 use Rattle.std.proofs.lemmas.Bool.{cases_lt, cases_eq, ne_eqb}
 use Rattle.glb_graph.specs.Rows.{targets_of, IsGraph}
 use Rattle.glb_graph.specs.Walks.{Walk, IsDistance}
-use Rattle.glb_graph.specs.Tables.{IsTable, unseen}
+use Rattle.glb_graph.specs.inner.Tables.{IsTable, unseen}
 use Rattle.glb_graph.specs.Distances.{distance}
-use Rattle.glb_graph.specs.Tables.{shown}
-use Rattle.glb_graph.proofs.WorthFacts.{shown_is}
-use Rattle.glb_graph.proofs.SearchFacts.{IsSearch, IsDone, IsNear, IsFront, front_begin, front_push, front_skip, front_done, front_near, finished, started}
+use Rattle.glb_graph.specs.inner.Tables.{shown}
+use Rattle.glb_graph.proofs.ValueFacts.{shown_is}
+use Rattle.glb_graph.proofs.SearchFacts.{IsSearch, IsDone, IsNear, IsFront, front_begin, front_push}
+use Rattle.glb_graph.proofs.SearchFacts.{front_skip, front_done, front_near, finished, started}
 use Rattle.std.proofs.Common.{replicate}
 
 module _ (rows : List (List ℕ)) (s : ℕ) (G : IsGraph rows) (start : s < length rows) where
@@ -16,15 +19,20 @@ module _ (rows : List (List ℕ)) (s : ℕ) (G : IsGraph rows) (start : s < leng
       → i + left ≡ length targets → IsFront rows s table queue h vertex next targets i →
       (table' : List ℕ) × (queue' : List ℕ)
       × IsFront rows s table' queue' h vertex next targets (length targets)
-  all_targets h vertex next targets zero i table queue e F =
-      (table, queue, subst (λ n. IsFront rows s table queue h vertex next targets n) (omega arith) F)
+  all_targets h vertex next targets zero i table queue e F = (
+    table,
+    queue,
+    subst (λ n. IsFront rows s table queue h vertex next targets n) (omega arith) F,
+  )
   all_targets h vertex next targets (suc left) i table queue e F =
       elim (cases_eq (get_or table (get_or targets i 0) 0) unseen) [
         | inl new ↦ all_targets h vertex next targets left (i + 1) _ _ (omega arith)
-            (front_push rows s table queue h vertex next targets i (get_or targets i 0) F (omega arith) refl
+            (front_push rows s table queue h vertex next targets i (get_or targets i 0) F
+            (omega arith) refl
             new (set table (get_or targets i 0) next) (queue ++ get_or targets i 0 ∷ []) refl refl)
         | inr seen ↦ all_targets h vertex next targets left (i + 1) table queue (omega arith)
-            (front_skip rows s table queue h vertex next targets i (get_or targets i 0) F (omega arith) refl
+            (front_skip rows s table queue h vertex next targets i (get_or targets i 0) F
+            (omega arith) refl
             seen)
       ]
 
@@ -33,7 +41,10 @@ module _ (rows : List (List ℕ)) (s : ℕ) (G : IsGraph rows) (start : s < leng
       → IsSearch rows s table queue → IsDone rows table queue h
       → (h < length queue → IsNear table queue h) → (table' : List ℕ) × IsTable rows s table'
   all_vertices zero h table queue e l S d near = let room = S.room
-      in (table, finished rows s table queue S (subst (λ n. IsDone rows table queue n) (omega arith) d))
+      in (
+        table,
+        finished rows s table queue S (subst (λ n. IsDone rows table queue n) (omega arith) d),
+      )
   all_vertices (suc left) h table queue e l S d near = elim (cases_lt h (length queue)) [
     | inr end ↦ (
       table,
@@ -68,7 +79,8 @@ module _ (rows : List (List ℕ)) (s : ℕ) (G : IsGraph rows) (start : s < leng
       [ inl e ↦ inl (e, rw (eq-eqb _ _ e)) | inr ne ↦ inr (ne, rw (ne_eqb _ _ ne)) ]
 
   -- where the function says nothing, no walk leads
-  pub distance_none : (t : ℕ) → t < length rows → distance rows s t ≡ None → (n : ℕ) → Walk rows s t n → ⊥
+  pub distance_none : (t : ℕ) → t < length rows → distance rows s t ≡ None → (n : ℕ)
+      → Walk rows s t n → ⊥
   distance_none t l e n w = let T = some_table in let same = shown_is rows s T.0 T.1 t l in
       elim (shown_cases T.0 t) [
         | inl a ↦ T.1.not_reached t l a.0 n w
@@ -77,7 +89,8 @@ module _ (rows : List (List ℕ)) (s : ℕ) (G : IsGraph rows) (start : s < leng
       ]
 
   -- what it says is the least length of a walk
-  pub distance_some : (t d : ℕ) → t < length rows → distance rows s t ≡ Some d → IsDistance rows s t d
+  pub distance_some : (t d : ℕ) → t < length rows → distance rows s t ≡ Some d
+      → IsDistance rows s t d
   distance_some t d l e = let T = some_table in let same = shown_is rows s T.0 T.1 t l in
       elim (shown_cases T.0 t) [
         | inl a ↦ let x : None ≡ Some d = sym a.1 ∙ same ∙ e in absurd (cc)

@@ -1,17 +1,21 @@
 -- What the definitions come to.
-use Rattle.std.proofs.Common.{◌≡◌, ℕ, zero, suc, ◌+◌, ◌<◌, ◌≤◌, ◌↔◌, List, [], ◌∷◌, ◌++◌, length, get_or, inl, inr, refl, sym, ◌∙◌, ap, arith, add-one, Option, None, Some, append-nil}
+use Rattle.std.proofs.Common.{◌≡◌, ℕ, zero, suc, ◌+◌, ◌<◌, ◌≤◌, ◌↔◌, List, [], ◌∷◌, ◌++◌, length}
+use Rattle.std.proofs.Common.{get_or, inl, inr, refl, sym, ◌∙◌, ap, arith, add-one, Option, None}
+use Rattle.std.proofs.Common.{Some, append-nil}
 use Rattle.std.proofs.lemmas.Bool.{cases_lt, cases_eq}
 use Rattle.std.proofs.lemmas.List.{get_or_past}
 use Rattle.std.specs.List.{flat_map}
 use Rattle.std.proofs.lemmas.Grind.{flat_map-append}
 use Rattle.glb_laws.specs.Tree.{tree, forest, IsSmall, nodes}
-use Rattle.glb_graph.specs.Rows.{targets_of, targets_from, graph_of, edges_of, earlier, ArePairs, IsGraph}
+use Rattle.glb_graph.specs.Rows.{targets_of, targets_from, graph_of, edges_of, IsGraph}
+use Rattle.glb_graph.specs.inner.Compressed.{earlier, ArePairs}
 use Rattle.glb_graph.specs.Walks.{Walk, IsDistance}
 use Rattle.glb_graph.specs.Distances.{distance}
 use Rattle.glb_graph.specs.Spots.{spots, spot_children}
 use Rattle.glb_graph.specs.declared.dist.Spot.TheVariants.{Root, Vertex}
-use Rattle.glb_graph.proofs.PairFacts.{Pair, from_same, from_other, earlier-suc, earlier-zero, earlier-all, length-graph_of, targets_of-graph_of}
-use Rattle.glb_graph.proofs.WorthFacts.{length-spots}
+use Rattle.glb_graph.proofs.PairFacts.{Pair, from_same, from_other, earlier-suc, earlier-zero}
+use Rattle.glb_graph.proofs.PairFacts.{earlier-all, length-graph_of, targets_of-graph_of}
+use Rattle.glb_graph.proofs.ValueFacts.{length-spots}
 use Rattle.glb_graph.proofs.DistanceLaws.{distance_some, distance_none}
 
 -- a further row adds its length
@@ -33,7 +37,8 @@ pub graph_edges : (n : ℕ) (ps : List Pair) → ArePairs n ps → edges_of (gra
 graph_edges n ps a = edges_of-graph_of n ps ∙ earlier-all n ps n a (omega arith)
 
 -- the targets of pairs of vertices are vertices
-from_below : (n : ℕ) (ps : List Pair) (v : ℕ) → ArePairs n ps → (k : ℕ) → k < length (targets_from ps v)
+from_below : (n : ℕ) (ps : List Pair) (v : ℕ) → ArePairs n ps → (k : ℕ)
+    → k < length (targets_from ps v)
     → get_or (targets_from ps v) k 0 < n
 unfolding targets_from
 from_below n [] v a k l = absurd (omega arith)
@@ -48,7 +53,8 @@ from_below n (p ∷ ps) v (x, y, a) k l = elim (cases_eq p.0 v) [
       in omega (arith, from_below n ps v a k (omega (arith, ap length f)), ap (λ t. get_or t k 0) f)
 ]
   where
-    first : p.1 < n → ((k : ℕ) → k < length (targets_from ps v) → get_or (targets_from ps v) k 0 < n)
+    first : p.1 < n
+        → ((k : ℕ) → k < length (targets_from ps v) → get_or (targets_from ps v) k 0 < n)
         → (k : ℕ) → k < length (p.1 ∷ targets_from ps v) → get_or (p.1 ∷ targets_from ps v) k 0 < n
     first y rest zero l = y
     first y rest (suc k) l = rest k (omega arith)
@@ -74,21 +80,27 @@ graph_is n ps few few' a = record {
 }
 
 -- two distances are the same
-same_distance : (rows : List (List ℕ)) (s t d d' : ℕ) → IsDistance rows s t d → IsDistance rows s t d'
+same_distance : (rows : List (List ℕ)) (s t d d' : ℕ) → IsDistance rows s t d
+    → IsDistance rows s t d'
     → d ≡ d'
 same_distance rows s t d d' (w, least) (w', least') = omega (arith, least d' w', least' d w)
 
 -- the function gives the least number of edges of a walk
-pub distance_is : (rows : List (List ℕ)) (s t d : ℕ) → IsGraph rows → s < length rows → t < length rows
+pub distance_is : (rows : List (List ℕ)) (s t d : ℕ) → IsGraph rows → s < length rows
+    → t < length rows
     → (distance rows s t ≡ Some d) ↔ IsDistance rows s t d
-distance_is rows s t d G l l' = (distance_some rows s G l t d l', λ D. from D (distance rows s t) refl)
+distance_is rows s t d G l l' =
+    (distance_some rows s G l t d l', λ D. from D (distance rows s t) refl)
   where
-    from : IsDistance rows s t d → (o : Option ℕ) → distance rows s t ≡ o → distance rows s t ≡ Some d
+    from : IsDistance rows s t d → (o : Option ℕ) → distance rows s t ≡ o
+        → distance rows s t ≡ Some d
     from D None e = absurd (distance_none rows s G l t l' e d D.0)
-    from D (Some c) e = e ∙ ap Some (same_distance rows s t c d (distance_some rows s G l t c l' e) D)
+    from D (Some c) e =
+        e ∙ ap Some (same_distance rows s t c d (distance_some rows s G l t c l' e) D)
 
 -- the function gives nothing exactly where there is no walk
-pub distance_is_none : (rows : List (List ℕ)) (s t : ℕ) → IsGraph rows → s < length rows → t < length rows
+pub distance_is_none : (rows : List (List ℕ)) (s t : ℕ) → IsGraph rows → s < length rows
+    → t < length rows
     → (distance rows s t ≡ None) ↔ ((n : ℕ) → Walk rows s t n → ⊥)
 distance_is_none rows s t G l l' =
     (distance_none rows s G l t l', λ none. from none (distance rows s t) refl)

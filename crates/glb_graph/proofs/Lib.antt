@@ -1,9 +1,11 @@
 pub mod RowFacts
 pub mod PairFacts
 pub mod SearchFacts
-pub mod WorthFacts
+pub mod ValueFacts
 pub mod DistanceLaws
 pub mod TextFacts
 pub mod LineFacts
 pub mod ReadFacts
 pub mod LawFacts
+pub mod SumFacts
+pub mod AnswerFacts

@@ -1,10 +1,14 @@
 -- What stands at the front of the bytes: digits, numerals and lines.
-use Rattle.std.proofs.Common.{◌≡◌, ℕ, zero, suc, ◌+◌, ◌-◌, ◌*◌, ◌<◌, ◌≤◌, List, [], ◌∷◌, ◌++◌, length, get_or, take, drop, inl, inr, refl, sym, ◌∙◌, ap, subst, arith, add-one, eq-eqb, Option, None, Some, IfNone, append_assoc, append-nil, length-append}
-use Rattle.std.proofs.lemmas.List.{drop_more, drop_all, take_more, length-take, get_or-take, get_or_at, get_or_append_left}
+use Rattle.std.proofs.Common.{◌≡◌, ℕ, zero, suc, ◌+◌, ◌-◌, ◌*◌, ◌<◌, ◌≤◌, List, [], ◌∷◌, ◌++◌}
+use Rattle.std.proofs.Common.{length, get_or, take, drop, inl, inr, refl, sym, ◌∙◌, ap, subst}
+use Rattle.std.proofs.Common.{arith, add-one, eq-eqb, Option, None, Some, IfNone, append_assoc}
+use Rattle.std.proofs.Common.{append-nil, length-append}
+use Rattle.std.proofs.lemmas.List.{drop_more, drop_all, take_more, length-take, get_or-take}
+use Rattle.std.proofs.lemmas.List.{get_or_at, get_or_append_left}
 use Rattle.std.proofs.lemmas.Bool.{cases_lt, cases_eq, ne_eqb}
 use Rattle.glb_graph.specs.GraphText.{lines_of, add_to_first, AreDigits, number_from, IsPair}
 use Rattle.glb_graph.proofs.TextFacts.{same_pair}
-use Rattle.glb_graph.specs.Reading.{NoDigit, BeginsWithNumeral, BeginsWith}
+use Rattle.glb_graph.specs.inner.Reading.{NoDigit, BeginsWithNumeral, BeginsWith}
 
 -- no bytes have no lines
 pub lines_none : (bytes : List ℕ) → length bytes ≡ 0 → lines_of bytes ≡ []
@@ -84,7 +88,8 @@ number_more n [] d = refl
 number_more n (c ∷ ds) d = number_more (n * 10 + (c - 48)) ds d
 
 -- one more digit is read
-pub part_more : (bytes : List ℕ) (number count d : ℕ) → IsPart bytes number count → count < length bytes
+pub part_more : (bytes : List ℕ) (number count d : ℕ) → IsPart bytes number count
+    → count < length bytes
     → count < 10 → d ≡ get_or bytes count 0 → 48 ≤ d → d < 58
     → IsPart bytes (number * 10 + (d - 48)) (count + 1)
 part_more bytes number count d P l few e low high =
@@ -112,7 +117,8 @@ numeral_ends : (bytes : List ℕ) (n : ℕ) (rest : List ℕ) (N : BeginsWithNum
     → get_or bytes (length N.digits) 0 < 58 → ⊥
 numeral_ends bytes n rest N l low high = go rest N.bytes_are N.ends low high
   where
-    go : (rest : List ℕ) → bytes ≡ N.digits ++ rest → NoDigit rest → 48 ≤ get_or bytes (length N.digits) 0
+    go : (rest : List ℕ) → bytes ≡ N.digits ++ rest → NoDigit rest
+        → 48 ≤ get_or bytes (length N.digits) 0
         → get_or bytes (length N.digits) 0 < 58 → ⊥
     go [] e free low high = absurd (omega (arith, ap length e, length-append N.digits []))
     go (b ∷ rest) e free low high =
@@ -126,7 +132,8 @@ pub part_long : (bytes : List ℕ) (number count : ℕ) → IsPart bytes number 
     → (n : ℕ) (rest : List ℕ) → BeginsWithNumeral bytes n rest → ⊥
 part_long bytes number count P ten l low high n rest N = elim (cases_eq (length N.digits) count) [
   | inl e ↦
-      let x : get_or bytes (length N.digits) 0 ≡ get_or bytes count 0 = ap (λ k. get_or bytes k 0) e in
+      let x : get_or bytes (length N.digits) 0 ≡ get_or bytes count 0 =
+      ap (λ k. get_or bytes k 0) e in
       numeral_ends bytes n rest N (omega arith) (omega arith) (omega arith)
   | inr ne ↦
       let short : length N.digits < count = omega (arith, N.numeral.few) in
@@ -137,7 +144,8 @@ part_long bytes number count P ten l low high n rest N = elim (cases_eq (length 
 ]
 
 -- without a digit in front there is no numeral
-pub part_empty : (bytes : List ℕ) → (0 < length bytes → 48 ≤ get_or bytes 0 0 → get_or bytes 0 0 < 58 → ⊥)
+pub part_empty : (bytes : List ℕ)
+    → (0 < length bytes → 48 ≤ get_or bytes 0 0 → get_or bytes 0 0 < 58 → ⊥)
     → (n : ℕ) (rest : List ℕ) → BeginsWithNumeral bytes n rest → ⊥
 part_empty bytes none n rest N =
     let some = N.numeral.some in
@@ -176,7 +184,8 @@ part_whole bytes number count rest P some e free = record {
 }
 
 -- digits end in one way
-same_digits : (xs ys r t : List ℕ) → AreDigits xs → AreDigits ys → NoDigit r → NoDigit t → xs ++ r ≡ ys
+same_digits : (xs ys r t : List ℕ) → AreDigits xs → AreDigits ys → NoDigit r → NoDigit t
+    → xs ++ r ≡ ys
     ++ t → r ≡ t
 same_digits [] [] r t a b p q e = e
 same_digits [] (y ∷ ys) [] t a b p q e = absurd (cc)
@@ -254,7 +263,8 @@ some_line (b ∷ bytes) l = elim (cases_eq b 10) [
 -- where there are no lines, there are no bytes
 no_lines : (bytes : List ℕ) → lines_of bytes ≡ [] → bytes ≡ []
 no_lines [] e = refl
-no_lines (b ∷ bytes) e = let s = some_line (b ∷ bytes) (omega arith) in let x : s.0 ∷ s.1 ≡ [] = sym s.2
+no_lines (b ∷ bytes) e = let s = some_line (b ∷ bytes) (omega arith) in let x : s.0 ∷ s.1 ≡ [] =
+    sym s.2
     ∙ e in absurd (cc)
 
 -- the first line stands in front, up to its end
@@ -269,7 +279,8 @@ first_line (b ∷ bytes) line lines e = elim (cases_eq b 10) [
   where
     added : (these : List (List ℕ)) → lines_of bytes ≡ these
         → ((line : List ℕ) (lines : List (List ℕ)) → lines_of bytes ≡ line ∷ lines → (tail : List ℕ)
-        × (bytes ≡ line ++ tail) × IsEnd tail) → add_to_first b these ≡ line ∷ lines → (tail : List ℕ)
+        × (bytes ≡ line ++ tail) × IsEnd tail) → add_to_first b these ≡ line ∷ lines
+        → (tail : List ℕ)
         × (b ∷ bytes ≡ line ++ tail) × IsEnd tail
     added [] f below x = let y : b ∷ [] ≡ line = cc
         in ([], ap (λ xs. b ∷ xs) (no_lines bytes f) ∙ ap (λ l. l ++ []) y, tt)
@@ -328,7 +339,8 @@ module _ (bytes : List ℕ) (m : ℕ) (after : List ℕ) (N : BeginsWithNumeral 
       no_bytes (x ∷ xs) e = absurd (omega arith)
 
   -- before a line feed the line ends
-  pub pair_feed : (further : List ℕ) → rest ≡ 10 ∷ further → BeginsWith (λ l. IsPair l m n) bytes further
+  pub pair_feed : (further : List ℕ) → rest ≡ 10 ∷ further
+      → BeginsWith (λ l. IsPair l m n) bytes further
   pair_feed further e = record {
     line = line;
     such = line_is;

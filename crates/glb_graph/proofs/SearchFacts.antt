@@ -1,11 +1,16 @@
 -- The search by breadth.
-use Rattle.std.proofs.Common.{◌≡◌, ◌≢◌, ℕ, zero, suc, ◌+◌, ◌<◌, ◌≤◌, cond, List, [], ◌∷◌, ◌++◌, length, get_or, set, take, replicate, min, inl, inr, refl, sym, ◌∙◌, ap, subst, arith, add-one, below_more, get_or-set_other, get_or-set_same, length-append, length-set, nat_eq, eq-eqb}
-use Rattle.std.proofs.lemmas.List.{get_or_append_left, get_or_at, get_or_default, length-replicate, get_or-replicate, get_or-take, length-take, take-set, take_more_set, set-get_or}
+use Rattle.std.proofs.Common.{◌≡◌, ◌≢◌, ℕ, zero, suc, ◌+◌, ◌<◌, ◌≤◌, cond, List, [], ◌∷◌, ◌++◌}
+use Rattle.std.proofs.Common.{length, get_or, set, take, replicate, min, inl, inr, refl, sym, ◌∙◌}
+use Rattle.std.proofs.Common.{ap, subst, arith, add-one, below_more, get_or-set_other}
+use Rattle.std.proofs.Common.{get_or-set_same, length-append, length-set, nat_eq, eq-eqb}
+use Rattle.std.proofs.lemmas.List.{get_or_append_left, get_or_at, get_or_default, length-replicate}
+use Rattle.std.proofs.lemmas.List.{get_or-replicate, get_or-take, length-take, take-set}
+use Rattle.std.proofs.lemmas.List.{take_more_set, set-get_or}
 use Rattle.std.specs.Int.{from_bool}
 use Rattle.std.proofs.lemmas.Bool.{cases_lt, cases_eq, cond-true, ne_eqb}
 use Rattle.glb_graph.specs.Rows.{targets_of, IsGraph}
 use Rattle.glb_graph.specs.Walks.{Walk, HasEdge}
-use Rattle.glb_graph.specs.Tables.{IsTable, unseen}
+use Rattle.glb_graph.specs.inner.Tables.{IsTable, unseen}
 
 -- how many vertices are not found yet
 unfoldable pub unseen_in : List ℕ → ℕ
@@ -16,7 +21,8 @@ unseen_in (d ∷ table) = cond (nat_eq d unseen) 1 0 + unseen_in table
 abbrev pub at : List ℕ → List ℕ → ℕ → ℕ
 at table queue k = get_or table (get_or queue k 0) 0
 
--- what holds throughout the search: the queue has the vertices that were found, each once, by rising distance
+-- what holds throughout the search: the queue has the vertices that were found, each once, by
+-- rising distance
 pub record IsSearch (rows : List (List ℕ)) (s : ℕ) (table queue : List ℕ) : Type 0 where
   pub few : length rows ≤ 20000
   pub same_length : length table ≡ length rows
@@ -46,8 +52,10 @@ IsDone rows table queue h = (k : ℕ) → k < h
     (length (targets_of rows (get_or queue k 0))) (at table queue k + 1)
 
 -- a walk to an equal vertex, of an equal number of edges
-walk_same : (rows : List (List ℕ)) (s t t' n n' : ℕ) → t ≡ t' → n ≡ n' → Walk rows s t n → Walk rows s t' n'
-walk_same rows s t t' n n' p q w = subst (λ x. Walk rows s x n') p (subst (λ x. Walk rows s t x) q w)
+walk_same : (rows : List (List ℕ)) (s t t' n n' : ℕ) → t ≡ t' → n ≡ n' → Walk rows s t n
+    → Walk rows s t' n'
+walk_same rows s t t' n n' p q w =
+    subst (λ x. Walk rows s x n') p (subst (λ x. Walk rows s t x) q w)
 
 -- one more edge at the end
 walk_more : (rows : List (List ℕ)) (s m t n : ℕ) → Walk rows s m n → HasEdge rows m t
@@ -70,7 +78,8 @@ unseen-replicate zero = refl
 unseen-replicate (suc n) = omega (arith, unseen-replicate n)
 
 -- a vertex that is not found yet is found from the one at place h
-module _ (rows : List (List ℕ)) (s : ℕ) (table queue : List ℕ) (h w : ℕ) (S : IsSearch rows s table queue)
+module _ (rows : List (List ℕ)) (s : ℕ) (table queue : List ℕ) (h w : ℕ)
+    (S : IsSearch rows s table queue)
     (close : IsNear table queue h) (at_work : h < length queue) (in' : w < length rows)
     (new : get_or table w 0 ≡ unseen) where
   -- its distance
@@ -125,12 +134,14 @@ module _ (rows : List (List ℕ)) (s : ℕ) (table queue : List ℕ) (h w : ℕ)
         elim (cases_lt j (length queue)) [
           | inl a ↦ omega (arith, old j a, close j a, e')
           | inr d ↦ let f : j ≡ k = omega arith in
-              let f' : at table' queue' j ≡ at table' queue' k = ap (at table' queue') f in omega arith
+              let f' : at table' queue' j ≡ at table' queue' k =
+              ap (at table' queue') f in omega arith
         ]
   ]
 
   -- each vertex that is found stands in the queue
-  push_found : (v : ℕ) → v < length rows → get_or table' v 0 ≢ unseen → (k : ℕ) × (k < length queue + 1)
+  push_found : (v : ℕ) → v < length rows → get_or table' v 0 ≢ unseen
+      → (k : ℕ) × (k < length queue + 1)
       × (get_or queue' k 0 ≡ v)
   push_found v l ne = elim (cases_eq v w) [
     | inl e ↦ (length queue, omega arith, place_new ∙ sym e)
@@ -153,7 +164,8 @@ module _ (rows : List (List ℕ)) (s : ℕ) (table queue : List ℕ) (h w : ℕ)
         (λ k a. omega (arith, old k a, S.near k a)) (omega (arith, fresh, S.near h at_work)) k
         (omega (arith, longer));
     rising = λ j k le l. push_rising j k le (omega (arith, longer));
-    walks = λ k l. below_more (λ k. Walk rows s (get_or queue' k 0) (at table' queue' k)) (length queue)
+    walks = λ k l. below_more (λ k. Walk rows s (get_or queue' k 0) (at table' queue' k))
+        (length queue)
         (λ k a. walk_same rows s _ _ _ _ (sym (place k a)) (sym (old k a)) (S.walks k a))
         (walk_same rows s w _ (suc (at table queue h)) _ (sym place_new)
         (sym (add-one (at table queue h)) ∙ sym fresh)
@@ -167,11 +179,13 @@ module _ (rows : List (List ℕ)) (s : ℕ) (table queue : List ℕ) (h w : ℕ)
   -- no vertex of the queue is too far
   pub pushed_near : IsNear table' queue' h
   pushed_near k l = below_more (λ k. at table' queue' k ≤ at table' queue' h + 1) (length queue)
-      (λ k a. omega (arith, old k a, old h at_work, close k a)) (omega (arith, fresh, old h at_work)) k
+      (λ k a. omega (arith, old k a, old h at_work, close k a))
+      (omega (arith, fresh, old h at_work)) k
       (omega (arith, longer))
 
   -- the targets that were found are found, at the same distance
-  pub pushed_found : (targets : List ℕ) (i most : ℕ) → most < unseen → AreFound rows table targets i most
+  pub pushed_found : (targets : List ℕ) (i most : ℕ) → most < unseen
+      → AreFound rows table targets i most
       → AreFound rows table' targets i most
   pushed_found targets i most l f j a = let g = f j a
       in (g.0, omega (arith, g.1, kept (get_or targets j 0) (omega (arith, g.1))))
@@ -229,10 +243,16 @@ started rows s few h =
 -- at the end each walk stays in the queue
 along : (rows : List (List ℕ)) (s : ℕ) (table queue : List ℕ) → IsSearch rows s table queue
     → IsDone rows table queue (length queue) →
-    (n m t a k : ℕ) → k < length queue → get_or queue k 0 ≡ m → get_or table m 0 ≤ a → Walk rows m t n →
+    (n m t a k : ℕ) → k < length queue → get_or queue k 0 ≡ m → get_or table m 0 ≤ a
+    → Walk rows m t n →
     (k' : ℕ) × (k' < length queue) × (get_or queue k' 0 ≡ t) × (get_or table t 0 ≤ a + n)
-along rows s table queue S d zero m t a k l e le w =
-    (k, l, e ∙ w, let x : get_or table m 0 ≡ get_or table t 0 = ap (λ v. get_or table v 0) w in omega arith)
+along rows s table queue S d zero m t a k l e le w = (
+  k,
+  l,
+  e ∙ w,
+  let x : get_or table m 0 ≡ get_or table t 0 =
+      ap (λ v. get_or table v 0) w in omega arith,
+)
 along rows s table queue S d (suc n) m t a k l e le (c, (j, jl, je), w) =
     let jl' : j < length (targets_of rows (get_or queue k 0)) =
     subst (λ v. j < length (targets_of rows v)) (sym e) jl in
@@ -280,7 +300,8 @@ finished rows s table queue S d =
     }
 
 -- where none is unseen, each vertex is found
-no_unseen : (table : List ℕ) (v : ℕ) → unseen_in table ≡ 0 → v < length table → get_or table v 0 ≡ unseen
+no_unseen : (table : List ℕ) (v : ℕ) → unseen_in table ≡ 0 → v < length table
+    → get_or table v 0 ≡ unseen
     → ⊥
 unfolding unseen_in
 no_unseen [] v z l e = omega arith
@@ -291,14 +312,16 @@ no_unseen (d ∷ table) (suc v) z l e = no_unseen table v (omega arith) (omega a
 
 -- once every vertex is found, no vertex of the queue has a target to look at
 pub all_found : (rows : List (List ℕ)) (s : ℕ) (table queue : List ℕ) (h : ℕ) → IsGraph rows
-    → IsSearch rows s table queue → IsDone rows table queue h → (h < length queue → IsNear table queue h)
+    → IsSearch rows s table queue → IsDone rows table queue h
+    → (h < length queue → IsNear table queue h)
     → length rows ≤ length queue → IsDone rows table queue (length queue)
 all_found rows s table queue h G S d near full k l j a = elim (cases_lt k h) [
   | inl b ↦ d k b j a
   | inr b ↦
       let w : ℕ = get_or (targets_of rows (get_or queue k 0)) j 0 in
       let in' : w < length rows = G.below (get_or queue k 0) j a in
-      let f = S.found w in' (no_unseen table w (omega (arith, S.room)) (omega (arith, S.same_length))) in
+      let f = S.found w in'
+      (no_unseen table w (omega (arith, S.room)) (omega (arith, S.same_length))) in
       let e : at table queue f.0 ≡ get_or table w 0 = ap (λ v. get_or table v 0) f.2 in
       (in', omega (arith, e, near (omega arith) f.0 f.1, S.rising h k b l))
 ]
@@ -328,7 +351,8 @@ front_begin rows s table queue h vertex next targets S d l near e v t b = record
   before = d;
   at_work = l;
   near = near;
-  next_is = let x : at table queue h ≡ get_or table vertex 0 = ap (λ v. get_or table v 0) v in omega arith;
+  next_is = let x : at table queue h ≡ get_or table vertex 0 =
+      ap (λ v. get_or table v 0) v in omega arith;
   vertex_is = v;
   targets_are = t;
   below = b;
@@ -337,7 +361,8 @@ front_begin rows s table queue h vertex next targets S d l near e v t b = record
 
 -- a target that was found already
 pub front_skip : (rows : List (List ℕ)) (s : ℕ) (table queue : List ℕ) (h vertex next : ℕ)
-    (targets : List ℕ) (i w : ℕ) → IsFront rows s table queue h vertex next targets i → i < length targets
+    (targets : List ℕ) (i w : ℕ) → IsFront rows s table queue h vertex next targets i
+    → i < length targets
     → w ≡ get_or targets i 0 → (get_or table w 0 ≡ unseen → ⊥)
     → IsFront rows s table queue h vertex next targets (i + 1)
 front_skip rows s table queue h vertex next targets i w F l e ne =
@@ -362,7 +387,8 @@ front_skip rows s table queue h vertex next targets i w F l e ne =
 
 -- such a target is not farther than one step
 pub front_seen : (rows : List (List ℕ)) (s : ℕ) (table queue : List ℕ) (h vertex next : ℕ)
-    (targets : List ℕ) (i w : ℕ) → IsFront rows s table queue h vertex next targets i → i < length targets
+    (targets : List ℕ) (i w : ℕ) → IsFront rows s table queue h vertex next targets i
+    → i < length targets
     → w ≡ get_or targets i 0 → (get_or table w 0 ≡ unseen → ⊥) → get_or table w 0 ≤ next
 front_seen rows s table queue h vertex next targets i w F l e ne =
     let in' : w < length rows = omega (arith, F.below i l) in
@@ -371,7 +397,8 @@ front_seen rows s table queue h vertex next targets i w F l e ne =
     omega (arith, F.near f.0 f.1, F.next_is)
 
 -- the same of an equal table and queue
-pub same_front : (rows : List (List ℕ)) (s : ℕ) (table table' queue queue' : List ℕ) (h vertex next : ℕ)
+pub same_front : (rows : List (List ℕ)) (s : ℕ) (table table' queue queue' : List ℕ)
+    (h vertex next : ℕ)
     (targets : List ℕ) (i : ℕ) → table ≡ table' → queue ≡ queue'
     → IsFront rows s table queue h vertex next targets i
     → IsFront rows s table' queue' h vertex next targets i
@@ -381,7 +408,8 @@ same_front rows s table t' queue q' h vertex next targets i p q F =
 
 -- a target that is new
 pub front_push : (rows : List (List ℕ)) (s : ℕ) (table queue : List ℕ) (h vertex next : ℕ)
-    (targets : List ℕ) (i w : ℕ) → IsFront rows s table queue h vertex next targets i → i < length targets
+    (targets : List ℕ) (i w : ℕ) → IsFront rows s table queue h vertex next targets i
+    → i < length targets
     → w ≡ get_or targets i 0 → get_or table w 0 ≡ unseen →
     (table' queue' : List ℕ) → table' ≡ set table w next → queue' ≡ queue ++ w ∷ []
     → IsFront rows s table' queue' h vertex next targets (i + 1)
@@ -408,7 +436,8 @@ front_push rows s table queue h vertex next targets i w F l e new table' queue' 
       before = pushed_done rows s table queue h w S F.near F.at_work in' new F.before;
       at_work = omega (arith, longer rows s table queue h w S F.near F.at_work in' new, F.at_work);
       near = pushed_near rows s table queue h w S F.near F.at_work in' new;
-      next_is = omega (arith, F.next_is, old rows s table queue h w S F.near F.at_work in' new h F.at_work);
+      next_is = omega
+          (arith, F.next_is, old rows s table queue h w S F.near F.at_work in' new h F.at_work);
       vertex_is = place rows s table queue h w S F.near F.at_work in' new h F.at_work ∙ F.vertex_is;
       targets_are = F.targets_are;
       below = F.below;
@@ -422,7 +451,8 @@ front_push rows s table queue h vertex next targets i w F l e new table' queue' 
 
 -- after the last target the vertex is done
 pub front_done : (rows : List (List ℕ)) (s : ℕ) (table queue : List ℕ) (h vertex next : ℕ)
-    (targets : List ℕ) (i : ℕ) → IsFront rows s table queue h vertex next targets i → length targets ≤ i
+    (targets : List ℕ) (i : ℕ) → IsFront rows s table queue h vertex next targets i
+    → length targets ≤ i
     → IsDone rows table queue (h + 1)
 front_done rows s table queue h vertex next targets i F e =
     below_more (λ k. AreFound rows table (targets_of rows (get_or queue k 0))
@@ -435,7 +465,8 @@ front_done rows s table queue h vertex next targets i F e =
 
 -- then the next vertex can be at work
 pub front_near : (rows : List (List ℕ)) (s : ℕ) (table queue : List ℕ) (h vertex next : ℕ)
-    (targets : List ℕ) (i : ℕ) → IsFront rows s table queue h vertex next targets i → h + 1 < length queue
+    (targets : List ℕ) (i : ℕ) → IsFront rows s table queue h vertex next targets i
+    → h + 1 < length queue
     → IsNear table queue (h + 1)
 front_near rows s table queue h vertex next targets i F l k a =
     omega (arith, F.near k a, F.search.rising h (h + 1) (omega arith) l)
@@ -455,12 +486,14 @@ pub length-queue : (rows : List (List ℕ)) (array : List ℕ) (found : ℕ) →
 length-queue rows array found Q = omega (arith, length-take found array, Q.length_is, Q.within)
 
 -- the queue is the front of the array
-pub queue_at : (array : List ℕ) (found k : ℕ) → k < found → get_or (take found array) k 0 ≡ get_or array k 0
+pub queue_at : (array : List ℕ) (found k : ℕ) → k < found
+    → get_or (take found array) k 0 ≡ get_or array k 0
 queue_at array found k l = get_or-take found array k 0 l
 
 -- the search as the code begins it
 pub begun : (rows : List (List ℕ)) (s count : ℕ) (table array : List ℕ) → count ≡ length rows
-    → IsGraph rows → s < length rows → table ≡ replicate count unseen → array ≡ replicate (count + 1) 0 →
+    → IsGraph rows → s < length rows → table ≡ replicate count unseen
+    → array ≡ replicate (count + 1) 0 →
     IsSearch rows s (set table s 0) (take 1 (set array 0 s))
     × IsNear (set table s 0) (take 1 (set array 0 s)) 0 × IsQueue rows (set array 0 s) 1
 begun rows s count table array e G l t q =
@@ -503,7 +536,8 @@ head_near rows s table array found h v d Q S l e f =
     let g : at table (take found array) h ≡ get_or table v 0 = ap (λ x. get_or table x 0) a.0 in
     (f', omega (arith, f', g, S.near h (omega arith), Q.within, S.few))
 
--- one target of the vertex at work: it stands at the end of the queue, which grows by it where it is new
+-- one target of the vertex at work: it stands at the end of the queue, which grows by it where it
+-- is new
 module _ (rows : List (List ℕ)) (s : ℕ) (table array : List ℕ) (found h vertex next : ℕ)
     (targets : List ℕ) (i w known : ℕ) (Q : IsQueue rows array found)
     (F : IsFront rows s table (take found array) h vertex next targets i) (l : i < length targets)
@@ -542,7 +576,13 @@ module _ (rows : List (List ℕ)) (s : ℕ) (table array : List ℕ) (found h ve
           length_is = length-set array found w
               ∙ Q.length_is;
           within =
-              omega (arith, F'.search.room, ap length more, length-append (take found array) (w ∷ []), n);
+              omega (
+                arith,
+                F'.search.room,
+                ap length more,
+                length-append (take found array) (w ∷ []),
+                n,
+              );
         },
         F',
       )
@@ -554,10 +594,12 @@ module _ (rows : List (List ℕ)) (s : ℕ) (table array : List ℕ) (found h ve
       let ne' : get_or table w 0 ≡ unseen → ⊥ = λ e. ne (known_is ∙ e) in
       let low = front_seen rows s table (take found array) h vertex next targets i w F l w-is ne' in
       let least : less ≡ get_or table w 0 = omega (arith, known_is, low) in
-      let same : table ≡ set table w less = sym (set-get_or table w 0) ∙ ap (set table w) (sym least) in
+      let same : table ≡ set table w less =
+      sym (set-get_or table w 0) ∙ ap (set table w) (sym least) in
       subst (Next (set table w less) (set array found w)) (sym f) (
         record { length_is = length-set array found w ∙ Q.length_is; within = Q.within },
-        same_front rows s table (set table w less) (take found array) (take found (set array found w)) h
+        same_front rows s table (set table w less) (take found array)
+            (take found (set array found w)) h
             vertex next targets (i + 1) same (sym (take-set array found w))
             (front_skip rows s table (take found array) h vertex next targets i w F l w-is ne'),
       )

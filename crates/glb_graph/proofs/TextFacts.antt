@@ -1,10 +1,14 @@
 -- Each list of bytes says exactly one thing.
-use Rattle.std.proofs.Common.{◌≡◌, ℕ, zero, suc, ◌<◌, ◌≤◌, ◌⊎◌, List, [], ◌∷◌, ◌++◌, length, inl, inr, refl, sym, ◌∙◌, ap, subst, arith}
+use Rattle.std.proofs.Common.{◌≡◌, ℕ, zero, suc, ◌<◌, ◌≤◌, ◌⊎◌, List, [], ◌∷◌, ◌++◌, length, inl}
+use Rattle.std.proofs.Common.{inr, refl, sym, ◌∙◌, ap, subst, arith}
 use Rattle.std.proofs.lemmas.Bool.{cases_lt, cases_eq}
-use Rattle.glb_graph.specs.GraphText.{BadLine, TooLarge, BadEnd, Reading, Edges, Fault, lines_of, AreDigits, number_from, IsNumeral, IsPair, IsEdge, with_edge, SayEdges, SayGraph, Says}
+use Rattle.glb_graph.specs.GraphText.{BadLine, TooLarge, BadEnd, Reading, Edges, Fault, lines_of}
+use Rattle.glb_graph.specs.GraphText.{AreDigits, number_from, IsNumeral, IsPair, IsEdge, with_edge}
+use Rattle.glb_graph.specs.GraphText.{EdgeLinesSay, LinesSay, BytesSay}
 
 -- digits end at the first space, in one way
-same_split : (xs xs' ys ys' : List ℕ) → AreDigits xs → AreDigits xs' → xs ++ 32 ∷ ys ≡ xs' ++ 32 ∷ ys'
+same_split : (xs xs' ys ys' : List ℕ) → AreDigits xs → AreDigits xs'
+    → xs ++ 32 ∷ ys ≡ xs' ++ 32 ∷ ys'
     → (xs ≡ xs') × (ys ≡ ys')
 same_split [] [] ys ys' p q e = (refl, cc)
 same_split [] (d ∷ xs') ys ys' p (low, high, q) e = let h : 32 ≡ d = cc in absurd (omega arith)
@@ -17,13 +21,14 @@ same_split (d ∷ xs) (d' ∷ xs') ys ys' (_, _, p) (_, _, q) e =
     (cc, r.1)
 
 -- a line is a pair of two numbers in one way
-pub same_pair : (line : List ℕ) (a b a' b' : ℕ) → IsPair line a b → IsPair line a' b' → (a ≡ a') × (b ≡ b')
+pub same_pair : (line : List ℕ) (a b a' b' : ℕ) → IsPair line a b → IsPair line a' b'
+    → (a ≡ a') × (b ≡ b')
 same_pair line a b a' b' p q =
-    let r = same_split p.first q.first p.second q.second p.first_numeral.digits q.first_numeral.digits
+    let r = same_split p.first q.first p.second q.second p.first_numeral.digits
+    q.first_numeral.digits
     (sym p.line_is ∙ q.line_is) in (
       p.first_is ∙ ap (number_from 0) r.0 ∙ sym q.first_is,
-      p.second_is ∙ ap (number_from 0) r.1
-          ∙ sym q.second_is,
+      p.second_is ∙ ap (number_from 0) r.1 ∙ sym q.second_is,
     )
 
 -- whether all bytes are digits
@@ -69,7 +74,8 @@ front (b ∷ line) = at b line (front line)
     below b line ne lacks (x ∷ xs) ys (low, high, d) e = let h : x ≡ b = cc
         in lacks (omega arith, omega arith, tt) xs ys d (cc)
 
-    at : (b : ℕ) (line : List ℕ) → ((xs : List ℕ) × (ys : List ℕ) × AreDigits xs × (line ≡ xs ++ 32 ∷ ys))
+    at : (b : ℕ) (line : List ℕ)
+        → ((xs : List ℕ) × (ys : List ℕ) × AreDigits xs × (line ≡ xs ++ 32 ∷ ys))
         ⊎ ((xs ys : List ℕ) → AreDigits xs → line ≡ xs ++ 32 ∷ ys → ⊥) →
         ((xs : List ℕ) × (ys : List ℕ) × AreDigits xs × (b ∷ line ≡ xs ++ 32 ∷ ys))
         ⊎ ((xs ys : List ℕ) → AreDigits xs → b ∷ line ≡ xs ++ 32 ∷ ys → ⊥)
@@ -85,7 +91,8 @@ front (b ∷ line) = at b line (front line)
     ]
 
 -- whether a line is a pair
-pub is_pair : (line : List ℕ) → ((a : ℕ) × (b : ℕ) × IsPair line a b) ⊎ ((a b : ℕ) → IsPair line a b → ⊥)
+pub is_pair : (line : List ℕ)
+    → ((a : ℕ) × (b : ℕ) × IsPair line a b) ⊎ ((a b : ℕ) → IsPair line a b → ⊥)
 is_pair line = elim (front line) [
   | inr none ↦ inr (λ a b p. none p.first p.second p.first_numeral.digits p.line_is)
   | inl r ↦ elim (is_numeral r.0) [
@@ -121,7 +128,8 @@ pub is_edge : (vertices : ℕ) (line : List ℕ) → ((a : ℕ) × (b : ℕ) × 
 is_edge vertices line = elim (is_pair line) [
   | inr lacks ↦ inr (λ a b e. lacks a b e.0)
   | inl r ↦ elim (cases_lt r.0 vertices) [
-    | inr high ↦ inr (λ a b e. let s = (same_pair line a b r.0 r.1 e.0 r.2).0 in let l = e.1 in omega arith)
+    | inr high ↦ inr
+        (λ a b e. let s = (same_pair line a b r.0 r.1 e.0 r.2).0 in let l = e.1 in omega arith)
     | inl low ↦ elim (cases_lt r.1 vertices) [
       | inr high ↦ inr (λ a b e. let s = (same_pair line a b r.0 r.1 e.0 r.2).1 in let l = e.2
           in omega arith)
@@ -132,7 +140,7 @@ is_edge vertices line = elim (is_pair line) [
 
 -- lines say some edges or have a fault
 pub some_edges : (vertices left at : ℕ) (lines : List (List ℕ)) → (r : Reading)
-    × SayEdges vertices left at lines r
+    × EdgeLinesSay vertices left at lines r
 some_edges vertices zero at [] = (Edges vertices [], refl)
 some_edges vertices zero at (line ∷ lines) = (Fault BadEnd at, refl)
 some_edges vertices (suc left) at [] = (Fault BadEnd at, refl)
@@ -144,7 +152,7 @@ some_edges vertices (suc left) at (line ∷ lines) = elim (is_edge vertices line
 
 -- and only one of these
 pub one_edges : (vertices left at : ℕ) (lines : List (List ℕ)) (r r' : Reading)
-    → SayEdges vertices left at lines r → SayEdges vertices left at lines r' → r ≡ r'
+    → EdgeLinesSay vertices left at lines r → EdgeLinesSay vertices left at lines r' → r ≡ r'
 one_edges vertices zero at [] r r' p q = p ∙ sym q
 one_edges vertices zero at (line ∷ lines) r r' p q = p ∙ sym q
 one_edges vertices (suc left) at [] r r' p q = p ∙ sym q
@@ -158,10 +166,10 @@ one_edges vertices (suc left) at (line ∷ lines) r r' (inr (a, b, s, e, p, is))
     ∙ ap (with_edge (a', b')) (one_edges vertices left (suc at) lines s s' p p') ∙ sym is'
 
 -- bytes say a graph or have a fault
-pub some_reading : (bytes : List ℕ) → (r : Reading) × Says bytes r
+pub some_reading : (bytes : List ℕ) → (r : Reading) × BytesSay bytes r
 some_reading bytes = on (lines_of bytes)
   where
-    on : (lines : List (List ℕ)) → (r : Reading) × SayGraph lines r
+    on : (lines : List (List ℕ)) → (r : Reading) × LinesSay lines r
     on [] = (Fault BadEnd 1, refl)
     on (line ∷ lines) = elim (is_pair line) [
       | inr lacks ↦ (Fault BadLine 1, inl (lacks, refl))
@@ -176,15 +184,16 @@ some_reading bytes = on (lines_of bytes)
     ]
 
 -- and only one of these
-pub one_reading : (bytes : List ℕ) (r r' : Reading) → Says bytes r → Says bytes r' → r ≡ r'
+pub one_reading : (bytes : List ℕ) (r r' : Reading) → BytesSay bytes r → BytesSay bytes r' → r ≡ r'
 one_reading bytes r r' p q = on (lines_of bytes) p q
   where
-    is_large : (a b a' b' : ℕ) → a ≡ a' → b ≡ b' → (20000 < a) ⊎ (1000000 < b) → a' ≤ 20000 → b' ≤ 1000000
+    is_large : (a b a' b' : ℕ) → a ≡ a' → b ≡ b' → (20000 < a) ⊎ (1000000 < b) → a' ≤ 20000
+        → b' ≤ 1000000
         → ⊥
     is_large a b a' b' e f (inl h) l m = omega arith
     is_large a b a' b' e f (inr h) l m = omega arith
 
-    on : (lines : List (List ℕ)) → SayGraph lines r → SayGraph lines r' → r ≡ r'
+    on : (lines : List (List ℕ)) → LinesSay lines r → LinesSay lines r' → r ≡ r'
     on [] p q = p ∙ sym q
     on (line ∷ lines) (inl p) (inl q) = p.1 ∙ sym q.1
     on (line ∷ lines) (inl p) (inr q) = absurd (p.0 q.0 q.1 q.2)
@@ -197,4 +206,5 @@ one_reading bytes r r' p q = on (lines_of bytes) p q
     on (line ∷ lines) (inr (a, b, p, inr x)) (inr (a', b', q, inr y)) =
         let s = same_pair line a b a' b' p q in
         one_edges a' b' 2 lines r r'
-        (subst (λ n. SayEdges n b' 2 lines r) s.0 (subst (λ n. SayEdges a n 2 lines r) s.1 x.2)) y.2
+        (subst (λ n. EdgeLinesSay n b' 2 lines r) s.0
+        (subst (λ n. EdgeLinesSay a n 2 lines r) s.1 x.2)) y.2

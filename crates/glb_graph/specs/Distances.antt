@@ -1,10 +1,8 @@
--- The distance as a function, and what a vertex is worth.
-use Rattle.std.specs.Prelude.{ℕ, zero, suc, ◌+◌, ◌==◌, Bool, true, false, cond, max, min, ◌-◌, ◌^◌, List, [], ◌∷◌, length, Option, None, Some}
-use Rattle.glb_laws.specs.Bounded.{sat_sum, greatest}
-use Rattle.glb_laws.specs.Pair.{both}
-use Rattle.glb_laws.specs.declared.sat_sum.SatSum.{SatSum}
-use Rattle.glb_laws.specs.declared.greatest.Greatest.{Greatest}
-use Rattle.glb_laws.specs.declared.both.Both.{Both}
+-- The distance as a function, and the value of a vertex.
+use Rattle.std.specs.Prelude.{ℕ, zero, suc, ◌-◌, ◌^◌, ◌==◌, min, Bool, true, false, cond, List, []}
+use Rattle.std.specs.Prelude.{◌∷◌, length, Option, None, Some}
+use Rattle.glb_laws.specs.Sums.{sum_to, greatest_to}
+use Rattle.glb_laws.specs.Tallies.{Tallies, tallies}
 use Rattle.glb_graph.specs.Rows.{targets_of}
 
 -- some element passes the test
@@ -37,33 +35,29 @@ unfoldable pub one_for : ℕ → ℕ → Option ℕ → ℕ
 one_for s t None = 0
 one_for s t (Some d) = cond (t == s) 0 1
 
--- the distance of a vertex that is reached
+-- the distance of a vertex that is reached, and 0 for one that is not
 unfoldable pub steps_for : Option ℕ → ℕ
 steps_for None = 0
 steps_for (Some d) = d
 
 -- of the vertices below n, how many others than s are reached
-unfoldable pub reached_of : (ℕ → Option ℕ) → ℕ → ℕ → ℕ
-reached_of far s zero = 0
-reached_of far s (suc n) = reached_of far s n + one_for s n (far n)
+abbrev pub reached_of : (ℕ → Option ℕ) → ℕ → ℕ → ℕ
+reached_of far s n = sum_to n (λ t. one_for s t (far t))
 
 -- of the vertices below n that are reached, the sum of the distances
-unfoldable pub sum_of : (ℕ → Option ℕ) → ℕ → ℕ
-sum_of far zero = 0
-sum_of far (suc n) = sum_of far n + steps_for (far n)
+abbrev pub sum_of : (ℕ → Option ℕ) → ℕ → ℕ
+sum_of far n = sum_to n (λ t. steps_for (far t))
 
 -- of the vertices below n that are reached, the greatest distance
-unfoldable pub greatest_of : (ℕ → Option ℕ) → ℕ → ℕ
-greatest_of far zero = 0
-greatest_of far (suc n) = max (greatest_of far n) (steps_for (far n))
+abbrev pub greatest_of : (ℕ → Option ℕ) → ℕ → ℕ
+greatest_of far n = greatest_to n (λ t. steps_for (far t))
 
 -- the number, or the last one of 64 bits
 abbrev pub capped : ℕ → ℕ
 capped n = min n (2 ^ 64 - 1)
 
 -- of the vertices below n, how many others than s are reached, the sum of their distances and the
--- greatest of these; no graph within the limits comes to a number that is capped
-abbrev pub worth : (ℕ → Option ℕ) → ℕ → ℕ → Both SatSum (Both SatSum Greatest)
-worth far s n =
-    both (sat_sum (capped (reached_of far s n)))
-    (both (sat_sum (capped (sum_of far n))) (greatest (capped (greatest_of far n))))
+-- greatest of these
+abbrev pub value_of : (ℕ → Option ℕ) → ℕ → ℕ → Tallies
+value_of far s n =
+    tallies (capped (reached_of far s n)) (capped (sum_of far n)) (capped (greatest_of far n))

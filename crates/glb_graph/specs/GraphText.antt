@@ -1,16 +1,18 @@
 -- Graph text, as a relation between bytes and what they say.
-use Rattle.std.specs.Prelude.{◌≡◌, ℕ, zero, suc, ◌+◌, ◌-◌, ◌*◌, ◌<◌, ◌≤◌, ◌==◌, ◌⊎◌, cond, List, [], ◌∷◌, ◌++◌, length}
+use Rattle.std.specs.Prelude.{◌≡◌, ℕ, zero, suc, ◌+◌, ◌-◌, ◌*◌, ◌<◌, ◌≤◌, ◌==◌, ◌⊎◌, cond, List, []}
+use Rattle.std.specs.Prelude.{◌∷◌, ◌++◌, length, codes}
+use Rattle.glb_graph.specs.declared.limits.TheConstants.{MOST_VERTICES, MOST_EDGES}
 
--- the faults
-pub data Kind : Type 0 where
-  BadLine : Kind
-  TooLarge : Kind
-  BadEnd : Kind
+-- what is wrong with bytes that are no graph text
+pub data FaultKind : Type 0 where
+  BadLine : FaultKind
+  TooLarge : FaultKind
+  BadEnd : FaultKind
 
 -- a number of vertices with the list of the edges, or a fault with its line
 pub data Reading : Type 0 where
   Edges : ℕ → List (ℕ × ℕ) → Reading
-  Fault : Kind → ℕ → Reading
+  Fault : FaultKind → ℕ → Reading
 
 -- one more byte at the front of the first line
 abbrev pub add_to_first : ℕ → List (List ℕ) → List (List ℕ)
@@ -42,7 +44,7 @@ pub record IsNumeral (ds : List ℕ) : Type 0 where
 pub record IsPair (line : List ℕ) (a b : ℕ) : Type 0 where
   pub first : List ℕ
   pub second : List ℕ
-  pub line_is : line ≡ first ++ 32 ∷ second
+  pub line_is : line ≡ first ++ (codes " " ++ second)
   pub first_numeral : IsNumeral first
   pub second_numeral : IsNumeral second
   pub first_is : a ≡ number_from 0 first
@@ -58,24 +60,25 @@ with_edge p (Edges v ps) = Edges v (p ∷ ps)
 with_edge p (Fault kind line) = Fault kind line
 
 -- what the lines say from the one with number `at` on, of which so many are edges
-abbrev pub SayEdges : ℕ → ℕ → ℕ → List (List ℕ) → Reading → Type 0
-SayEdges vertices zero at [] r = r ≡ Edges vertices []
-SayEdges vertices zero at (line ∷ lines) r = r ≡ Fault BadEnd at
-SayEdges vertices (suc left) at [] r = r ≡ Fault BadEnd at
-SayEdges vertices (suc left) at (line ∷ lines) r =
+abbrev pub EdgeLinesSay : ℕ → ℕ → ℕ → List (List ℕ) → Reading → Type 0
+EdgeLinesSay vertices zero at [] r = r ≡ Edges vertices []
+EdgeLinesSay vertices zero at (line ∷ lines) r = r ≡ Fault BadEnd at
+EdgeLinesSay vertices (suc left) at [] r = r ≡ Fault BadEnd at
+EdgeLinesSay vertices (suc left) at (line ∷ lines) r =
     (((a b : ℕ) → IsEdge vertices line a b → ⊥) × (r ≡ Fault BadLine at))
     ⊎ ((a : ℕ) × (b : ℕ) × (rest : Reading) × IsEdge vertices line a b
-    × SayEdges vertices left (suc at) lines rest × (r ≡ with_edge (a, b) rest))
+    × EdgeLinesSay vertices left (suc at) lines rest × (r ≡ with_edge (a, b) rest))
 
--- what all lines say
-abbrev pub SayGraph : List (List ℕ) → Reading → Type 0
-SayGraph [] r = r ≡ Fault BadEnd 1
-SayGraph (line ∷ lines) r =
+-- what the lines say, all together
+abbrev pub LinesSay : List (List ℕ) → Reading → Type 0
+LinesSay [] r = r ≡ Fault BadEnd 1
+LinesSay (line ∷ lines) r =
     (((a b : ℕ) → IsPair line a b → ⊥) × (r ≡ Fault BadLine 1))
     ⊎ ((vertices : ℕ) × (edges : ℕ) × IsPair line vertices edges ×
-    ((((20000 < vertices) ⊎ (1000000 < edges)) × (r ≡ Fault TooLarge 1))
-    ⊎ ((vertices ≤ 20000) × (edges ≤ 1000000) × SayEdges vertices edges 2 lines r)))
+    ((((MOST_VERTICES < vertices) ⊎ (MOST_EDGES < edges)) × (r ≡ Fault TooLarge 1))
+    ⊎ ((vertices ≤ MOST_VERTICES) × (edges ≤ MOST_EDGES)
+    × EdgeLinesSay vertices edges 2 lines r)))
 
 -- what the bytes say
-abbrev pub Says : List ℕ → Reading → Type 0
-Says bytes r = SayGraph (lines_of bytes) r
+abbrev pub BytesSay : List ℕ → Reading → Type 0
+BytesSay bytes r = LinesSay (lines_of bytes) r

@@ -1,11 +1,14 @@
 pub mod Rows
 pub mod Walks
 pub mod Distances
-pub mod Tables
+pub mod Pairs
 pub mod Spots
 pub mod GraphText
 pub mod Reading
+pub mod inner
 pub use Rattle.glb_laws.specs.Bounded
 pub use Rattle.glb_laws.specs.Pair
+pub use Rattle.glb_laws.specs.Tallies
+pub use Rattle.glb_laws.specs.Sums
 pub use Rattle.glb_laws.specs.Tree
 pub use Rattle.glb_laws.specs.Expansion

@@ -1,44 +1,20 @@
--- What the reader finds at the front of the bytes that are left, and what it answers.
-use Rattle.std.specs.Prelude.{◌≡◌, ℕ, ◌<◌, ◌≤◌, List, [], ◌∷◌, ◌++◌, length}
+-- What the reader of graph text answers.
+use Rattle.std.specs.Prelude.{◌≡◌, ℕ, List, length}
 use Rattle.glb_graph.specs.Rows.{graph_of}
-use Rattle.glb_graph.specs.GraphText.{IsNumeral, number_from, lines_of, Says, Edges, Fault}
+use Rattle.glb_graph.specs.GraphText.{BytesSay, Edges, Fault}
 use Rattle.glb_graph.specs.GraphText as text
 use Rattle.glb_graph.specs.declared.text.GraphFault.{GraphFault}
-use Rattle.glb_graph.specs.declared.text.GraphFault.TheVariants.{BadLine, TooLarge, BadEnd, NoMemory}
-
--- the bytes do not begin with a digit
-abbrev pub NoDigit : List ℕ → Type 0
-NoDigit [] = Unit {0}
-NoDigit (b ∷ bytes) = 48 ≤ b → b < 58 → ⊥
-
--- all digits in front are a numeral of this number, before the rest
-pub record BeginsWithNumeral (bytes : List ℕ) (n : ℕ) (rest : List ℕ) : Type 0 where
-  pub digits : List ℕ
-  pub bytes_are : bytes ≡ digits ++ rest
-  pub numeral : IsNumeral digits
-  pub value : n ≡ number_from 0 digits
-  pub ends : NoDigit rest
-
--- the first line is such a line, and the rest has the further lines
-pub record BeginsWith (IsSuch : List ℕ → Type 0) (bytes rest : List ℕ) : Type 0 where
-  pub line : List ℕ
-  pub such : IsSuch line
-  pub lines_are : lines_of bytes ≡ line ∷ lines_of rest
-
--- the first line, where there is one, is no such line
-abbrev pub BeginsWithout : (List ℕ → Type 0) → List ℕ → Type 0
-BeginsWithout IsSuch bytes =
-    (line : List ℕ) (lines : List (List ℕ)) → lines_of bytes ≡ line ∷ lines → IsSuch line → ⊥
+use Rattle.glb_graph.specs.declared.text.GraphFault.TheVariants as fault
 
 -- the bytes are graph text of this graph
-pub record SaysGraph (bytes : List ℕ) (rows : List (List ℕ)) : Type 0 where
+pub record IsTextOf (bytes : List ℕ) (rows : List (List ℕ)) : Type 0 where
   pub pairs : List (ℕ × ℕ)
-  pub says : Says bytes (Edges (length rows) pairs)
+  pub says : BytesSay bytes (Edges (length rows) pairs)
   pub graph_is : rows ≡ graph_of (length rows) pairs
 
 -- the bytes have this fault; want of memory says nothing of them
-abbrev pub SaysFault : List ℕ → GraphFault → Type 0
-SaysFault bytes (BadLine line) = Says bytes (Fault text.BadLine line)
-SaysFault bytes (TooLarge line) = Says bytes (Fault text.TooLarge line)
-SaysFault bytes (BadEnd line) = Says bytes (Fault text.BadEnd line)
-SaysFault bytes NoMemory = Unit {0}
+abbrev pub HasTextFault : List ℕ → GraphFault → Type 0
+HasTextFault bytes (fault.BadLine line) = BytesSay bytes (Fault text.BadLine line)
+HasTextFault bytes (fault.TooLarge line) = BytesSay bytes (Fault text.TooLarge line)
+HasTextFault bytes (fault.BadEnd line) = BytesSay bytes (Fault text.BadEnd line)
+HasTextFault bytes fault.NoMemory = Unit {0}

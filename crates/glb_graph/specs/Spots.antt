@@ -1,14 +1,11 @@
 -- The items of the job: a root, below it all vertices.
-use Rattle.std.specs.Prelude.{ℕ, zero, suc, Bool, true, false, cond, List, [], ◌∷◌, ◌++◌, length, nat_lt, ◌<◌, ◌^◌}
+use Rattle.std.specs.Prelude.{ℕ, zero, suc, Bool, true, false, cond, List, [], ◌∷◌, ◌++◌, length}
+use Rattle.std.specs.Prelude.{nat_lt}
 use Rattle.std.proofs.Common.{arith}
-use Rattle.glb_laws.specs.Bounded.{sat_sum, greatest}
-use Rattle.glb_laws.specs.Pair.{both}
-use Rattle.glb_laws.specs.declared.sat_sum.SatSum.{SatSum}
-use Rattle.glb_laws.specs.declared.greatest.Greatest.{Greatest}
-use Rattle.glb_laws.specs.declared.both.Both.{Both}
+use Rattle.glb_laws.specs.Tallies.{Tallies, no_tallies, AreProperTallies}
 use Rattle.glb_graph.specs.declared.dist.Spot.{Spot}
 use Rattle.glb_graph.specs.declared.dist.Spot.TheVariants.{Root, Vertex}
-use Rattle.glb_graph.specs.Distances.{worth, distance}
+use Rattle.glb_graph.specs.Distances.{value_of, distance}
 
 -- the vertices below n, by rising number
 unfoldable pub spots : ℕ → List Spot
@@ -20,26 +17,19 @@ abbrev pub spot_children : List (List ℕ) → Spot → List Spot
 spot_children rows Root = spots (length rows)
 spot_children rows (Vertex v) = []
 
--- what the root is worth
-abbrev pub no_worth : Both SatSum (Both SatSum Greatest)
-no_worth = both (sat_sum 0) (both (sat_sum 0) (greatest 0))
-
--- the root is worth nothing, and a vertex what it reaches
-abbrev pub spot_value : List (List ℕ) → Spot → Both SatSum (Both SatSum Greatest)
-spot_value rows Root = no_worth
+-- the root counts for nothing, and a vertex for what it reaches
+abbrev pub spot_value : List (List ℕ) → Spot → Tallies
+spot_value rows Root = no_tallies
 spot_value rows (Vertex s) =
-    cond (nat_lt s (length rows)) (worth (distance rows s) s (length rows)) no_worth
+    cond (nat_lt s (length rows)) (value_of (distance rows s) s (length rows)) no_tallies
 
--- the three numbers fit
-abbrev pub Fits : Both SatSum (Both SatSum Greatest) → Type 0
-Fits v = (v.0.0 < 2 ^ 64) × ((v.1.0.0 < 2 ^ 64) × (v.1.1.0 < 2 ^ 64))
-
-pub spot_value_proper : (rows : List (List ℕ)) (x : Spot) → Fits (spot_value rows x)
+-- the numbers of each value are of 64 bits
+pub spot_value_proper : (rows : List (List ℕ)) (x : Spot) → AreProperTallies (spot_value rows x)
 spot_value_proper rows Root = (omega arith, (omega arith, omega arith))
 spot_value_proper rows (Vertex s) =
-    either (nat_lt s (length rows)) (worth (distance rows s) s (length rows))
+    either (nat_lt s (length rows)) (value_of (distance rows s) s (length rows))
     (omega arith, (omega arith, omega arith))
   where
-    either : (b : Bool) (v : Both SatSum (Both SatSum Greatest)) → Fits v → Fits (cond b v no_worth)
+    either : (b : Bool) (v : Tallies) → AreProperTallies v → AreProperTallies (cond b v no_tallies)
     either true v f = f
     either false v f = (omega arith, (omega arith, omega arith))

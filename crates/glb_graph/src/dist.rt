@@ -1,16 +1,14 @@
 //! The job that sums the distances of a graph: an item for each vertex, below one root.
 ghost use Rattle.std.specs.Prelude.{◌≡◌, ℕ, ◌<◌, ◌≤◌, length, slice_index, ◌⊎◌, IfOk};
-ghost use Rattle.glb_graph.specs.Tables.{unseen, shown};
-ghost use Rattle.glb_graph.specs.Distances.{worth, distance};
+ghost use Rattle.glb_graph.specs.inner.Tables.{unseen, shown};
+ghost use Rattle.glb_graph.specs.Distances.{value_of, distance};
 ghost use Rattle.glb_graph.specs.Spots.{spot_children, spot_value, spot_value_proper};
 
 use super::graph::Graph;
+use super::limits::MOST_VERTICES;
 use super::search::{UNSEEN, distances};
-use glb_laws::{Both, Greatest, Monoid, NoMemory, Program, SatSum};
+use glb_laws::{Both, Greatest, Monoid, NoMemory, Program, SatSum, Tallies};
 use std::alloc::Global;
-
-/// What a vertex is worth: how many others it reaches, the sum of their distances and the greatest of these.
-type Worth = Both<SatSum, Both<SatSum, Greatest>>;
 
 /// The root of the job, or a vertex.
 #[derive(Clone, Copy, Debug, PartialEq, Eq)]
@@ -19,18 +17,19 @@ pub enum Spot {
     Vertex(u32),
 }
 
-/// The job over a graph: below the root stand all vertices, each worth what it reaches.
+/// The job over a graph: below the root stand all vertices. The value of a vertex is how many
+/// others it reaches, the sum of their distances and the greatest of these.
 #[derive(Clone, Copy)]
 pub struct Dist<'a> {
     graph: &'a Graph,
 }
 
-/// What a table of distances from the start is worth.
-fn tally(table: &[u16], start: u32) -> Worth
-    requires few { length table.now ≤ 20000 }
+/// The value of the start, from the table of the distances from it.
+fn tally(table: &[u16], start: u32) -> Tallies
+    requires few { length table.now ≤ MOST_VERTICES }
     requires small { (t : ℕ) → t < length table.now →
-        (slice_index table.now t ≡ unseen) ⊎ (slice_index table.now t < 20000) }
-    ensures { result ≡ worth (shown table.now) start (length table.now) }
+        (slice_index table.now t ≡ unseen) ⊎ (slice_index table.now t < MOST_VERTICES) }
+    ensures { result ≡ value_of (shown table.now) start (length table.now) }
 {
     let mut reached: u64 = 0;
     let mut sum: u64 = 0;
@@ -47,22 +46,24 @@ fn tally(table: &[u16], start: u32) -> Worth
     Both(SatSum(reached), Both(SatSum(sum), Greatest(greatest)))
 }
 
-/// What a vertex is worth.
-fn vertex_worth(alloc: Global, graph: &Graph, start: u32) -> Result<Worth, NoMemory>
+/// The value of a vertex.
+fn vertex_value(alloc: Global, graph: &Graph, start: u32) -> Result<Tallies, NoMemory>
     requires { start < length graph.now }
-    ensures { IfOk result (λ v. v ≡ worth (distance graph.now start) start (length graph.now)) }
+    ensures { IfOk result (λ v. v ≡ value_of (distance graph.now start) start (length graph.now)) }
 {
     let table = distances(alloc, graph, start)?;
     Ok(tally(&table, start))
 }
 
 impl<'a> Dist<'a> {
+    /// The job over this graph. It makes no copy.
     pub fn new(graph: &'a Graph) -> Self
         ensures { result.graph.now ≡ graph.now }
     {
         Dist { graph }
     }
 
+    /// The one root of the tree: a run is given a list of it alone.
     pub fn root(&self) -> Spot
         ensures { result ≡ Spot.Root }
     {
@@ -73,13 +74,13 @@ impl<'a> Dist<'a> {
 impl<'a> Program for Dist<'a> {
     type Item = Spot;
 
-    type Value = Worth;
+    type Value = Tallies;
 
     ghost children = { λ p x. spot_children p.graph.now x };
 
     ghost value = { λ p x. spot_value p.graph.now x };
 
-    fn expand(&self, item: &Spot, out: &mut Vec<Spot>) -> Result<Worth, NoMemory> {
+    fn expand(&self, item: &Spot, out: &mut Vec<Spot>) -> Result<Tallies, NoMemory> {
         match *item {
             Spot::Root => {
                 let before = out.len();
@@ -93,13 +94,13 @@ impl<'a> Program for Dist<'a> {
                         }
                     }
                 }
-                Ok(Worth::unit())
+                Ok(Tallies::unit())
             }
             Spot::Vertex(vertex) => {
                 if vertex < self.graph.vertices() {
-                    vertex_worth(*out.allocator(), self.graph, vertex)
+                    vertex_value(*out.allocator(), self.graph, vertex)
                 } else {
-                    Ok(Worth::unit())
+                    Ok(Tallies::unit())
                 }
             }
         }

@@ -4,6 +4,7 @@
 mod dist;
 mod graph;
 pub mod laws;
+mod limits;
 mod search;
 #[cfg(test)]
 mod tests;
@@ -11,4 +12,5 @@ mod text;
 
 pub use dist::{Dist, Spot};
 pub use graph::Graph;
+pub use limits::{MOST_EDGES, MOST_VERTICES};
 pub use text::{GraphFault, read_graph};

@@ -1,20 +1,24 @@
 //! The search by breadth: vertices stand in a queue in the order in which they were found, so their
 //! distances rise along it.
 ghost use Rattle.std.specs.Prelude.{ℕ, ◌<◌, ◌≤◌, length, IfOk};
-ghost use Rattle.glb_graph.specs.Tables.{IsTable};
+ghost use Rattle.glb_graph.specs.inner.Tables.{IsTable};
 
 use super::graph::Graph;
+use super::limits::MOST_VERTICES;
 use glb_laws::NoMemory;
 use std::alloc::Global;
 
 /// Stands for a vertex to which no walk leads.
-pub const UNSEEN: u16 = u16::MAX;
+pub(crate) const UNSEEN: u16 = u16::MAX;
 
 /// The distance of each vertex from the start, or `UNSEEN`.
-pub fn distances(alloc: Global, graph: &Graph, start: u32) -> Result<Vec<u16>, NoMemory>
+// A function of its own, so that what stands around its call does not change how its loops are
+// compiled.
+#[inline(never)]
+pub(crate) fn distances(alloc: Global, graph: &Graph, start: u32) -> Result<Vec<u16>, NoMemory>
     requires { start < length graph.now }
     ensures table { IfOk result (λ table. IsTable graph.now start table.items) }
-    ensures limit { IfOk result (λ table. length table.items ≤ 20000) }
+    ensures limit { IfOk result (λ table. length table.items ≤ MOST_VERTICES) }
 {
     graph.known();
     let count = graph.vertices() as usize;
@@ -27,8 +31,8 @@ pub fn distances(alloc: Global, graph: &Graph, start: u32) -> Result<Vec<u16>, N
     while head < found && found < count {
         let vertex = queue[head];
         let steps = table[vertex as usize] + 1;
-        // No branch for a target: it is written behind the queue, which grows by it where it is new,
-        // and keeps the lesser of two distances.
+        // No branch for a target: it is written behind the queue, which grows by it where it is
+        // new, and keeps the lesser of two distances.
         for target in graph.out(u32::from(vertex)) {
             let known = table[*target as usize];
             queue[found] = *target as u16;

@@ -1,30 +1,31 @@
 //! Graph text: a line with two numbers, then a line for each edge. Each byte is looked at once.
 ghost use Rattle.std.specs.Prelude.{◌≡◌, ℕ, ◌≤◌, List, [], ◌∷◌, IfSome, IfNone, IfOk, IfErr};
-ghost use Rattle.glb_graph.specs.GraphText.{IsPair, IsEdge, Edges, Says};
-ghost use Rattle.glb_graph.specs.Reading.{BeginsWith, BeginsWithout, BeginsWithNumeral, SaysGraph, SaysFault};
+ghost use Rattle.glb_graph.specs.GraphText.{IsPair, IsEdge, Edges, BytesSay};
+ghost use Rattle.glb_graph.specs.Reading.{IsTextOf, HasTextFault};
+ghost use Rattle.glb_graph.specs.inner.Reading.{BeginsWith, BeginsWithout, BeginsWithNumeral};
 
 use super::graph::Graph;
+use super::limits::{MOST_EDGES, MOST_VERTICES};
 use std::alloc::Global;
-
-/// The greatest number of vertices.
-const MOST_VERTICES: u64 = 20_000;
-
-/// The greatest number of edges.
-const MOST_EDGES: u64 = 1_000_000;
 
 /// Why bytes are no graph text, and the line at which reading ended, counted from 1.
 #[derive(Clone, Copy, Debug, PartialEq, Eq)]
 pub enum GraphFault {
+    /// The line is no pair of numbers, or an end of its edge is no vertex.
     BadLine { line: u64 },
+    /// The first line names more vertices or edges than the limits allow.
     TooLarge { line: u64 },
+    /// The bytes end before this line, or go on where they should have ended.
     BadEnd { line: u64 },
+    /// There was no memory.
     NoMemory,
 }
 
 /// The number that all digits in front write, and what follows them.
 fn numeral(bytes: &[u8]) -> Option<(u64, &[u8])>
     ensures some { IfSome result (λ p. BeginsWithNumeral bytes.now p.0 p.1.now) }
-    ensures none { IfNone result ((n : ℕ) (rest : List ℕ) → BeginsWithNumeral bytes.now n rest → ⊥) }
+    ensures none { IfNone result
+        ((n : ℕ) (rest : List ℕ) → BeginsWithNumeral bytes.now n rest → ⊥) }
 {
     let mut number: u64 = 0;
     let mut count = 0;
@@ -70,7 +71,7 @@ fn pair(bytes: &[u8]) -> Option<(u64, u64, &[u8])>
 
 /// The two vertices of the first line, and what follows the line.
 fn edge(bytes: &[u8], vertices: u64) -> Option<(u32, u32, &[u8])>
-    requires { vertices ≤ 20000 }
+    requires { vertices ≤ MOST_VERTICES }
     ensures some { IfSome result (λ p.
         BeginsWith (λ line. IsEdge vertices line p.0 p.1) bytes.now p.2.now) }
     ensures none { IfNone result ((a b : ℕ) →
@@ -86,8 +87,8 @@ fn edge(bytes: &[u8], vertices: u64) -> Option<(u32, u32, &[u8])>
 
 /// The number of vertices and the edges, in order.
 fn read_pairs(alloc: Global, bytes: &[u8]) -> Result<(u32, Vec<(u32, u32)>), GraphFault>
-    ensures graph { IfOk result (λ g. Says bytes.now (Edges g.0 g.1.items)) }
-    ensures fault { IfErr result (λ e. SaysFault bytes.now e) }
+    ensures graph { IfOk result (λ g. BytesSay bytes.now (Edges g.0 g.1.items)) }
+    ensures fault { IfErr result (λ e. HasTextFault bytes.now e) }
 {
     if bytes.len() == 0 {
         return Err(GraphFault::BadEnd { line: 1 });
@@ -123,8 +124,8 @@ fn read_pairs(alloc: Global, bytes: &[u8]) -> Result<(u32, Vec<(u32, u32)>), Gra
 
 /// The graph that the bytes are the text of. Reading ends at the first fault.
 pub fn read_graph(alloc: Global, bytes: &[u8]) -> Result<Graph, GraphFault>
-    ensures graph { IfOk result (λ graph. SaysGraph bytes.now graph) }
-    ensures fault { IfErr result (λ fault. SaysFault bytes.now fault) }
+    ensures graph { IfOk result (λ graph. IsTextOf bytes.now graph) }
+    ensures fault { IfErr result (λ fault. HasTextFault bytes.now fault) }
 {
     let (vertices, pairs) = read_pairs(alloc, bytes)?;
     match Graph::from_pairs(alloc, vertices, pairs) {

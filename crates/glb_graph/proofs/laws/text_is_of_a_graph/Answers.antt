@@ -11,4 +11,5 @@ pub returns-clause-vertices : goal.returns-clause-vertices
 returns-clause-vertices c = length-graph_of
 
 pub returns-clause-edges : goal.returns-clause-edges
-returns-clause-edges c = λ bytes v pairs says. graph_edges v pairs (says_limits bytes v pairs says).2
+returns-clause-edges c =
+    λ bytes v pairs says. graph_edges v pairs (says_limits bytes v pairs says).2

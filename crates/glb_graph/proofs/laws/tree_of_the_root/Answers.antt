@@ -1,4 +1,4 @@
-use Rattle.glb_graph.proofs.WorthFacts.{length-spots}
+use Rattle.glb_graph.proofs.ValueFacts.{length-spots}
 use Rattle.glb_graph.proofs.LawFacts.{root_tree, root_small}
 use Rattle.glb_graph.proofs.laws.tree_of_the_root.Goals as goal
 

@@ -1,8 +1,11 @@
 use Rattle.std.proofs.Common.{ℕ, ◌+◌, ◌<◌, length, get_or, take, arith, ap, sym, ◌∙◌, subst, refl}
 use Rattle.glb_graph.specs.Rows.{targets_of}
-use Rattle.glb_graph.proofs.SearchFacts.{IsDone, begun, length-queue, head_is, head_near, front_begin, front_done, front_near, target_next, all_found, finished}
+use Rattle.glb_graph.proofs.SearchFacts.{IsDone, begun, length-queue, head_is, head_near}
+use Rattle.glb_graph.proofs.SearchFacts.{front_begin, front_done, front_near, target_next}
+use Rattle.glb_graph.proofs.SearchFacts.{all_found, finished}
 use Rattle.glb_graph.proofs.search.distances.Goals as goal
-use Rattle.glb_graph.proofs.search.distances.Goals.{then-loop-head-test+else-found-count, else-loop-head-test}
+use Rattle.glb_graph.proofs.search.distances.Goals.{then-loop-head-test+else-found-count}
+use Rattle.glb_graph.proofs.search.distances.Goals.{else-loop-head-test}
 
 pub loop-head-init : goal.loop-head-init
 loop-head-init c =
@@ -57,16 +60,19 @@ loop-target-init c =
     let targets = c.out-target-items.ensures ∙ ap (targets_of c.args.graph.now) c.from.ensures in
     record {
       room = I.room;
-      front = front_begin _ _ _ _ _ _ _ _ I.search I.before (omega arith) (I.near c.loop-head-test.true)
+      front = front_begin _ _ _ _ _ _ _ _ I.search I.before (omega arith)
+          (I.near c.loop-head-test.true)
           (ap (λ x. x + 1) d.0) h.0 targets
-          (subst (λ t. (k : ℕ) → k < length t → get_or t k 0 < length c.args.graph.now) (sym targets)
+          (subst (λ t. (k : ℕ) → k < length t → get_or t k 0 < length c.args.graph.now)
+          (sym targets)
           (c.known.ensures.below c.index-vertex.result.now));
     }
 
 pub loop-target-preserved : goal.loop-target-preserved
 loop-target-preserved c =
     let T = c.loop-target.invariant in
-    let next = target_next _ _ _ _ _ _ _ _ _ _ _ _ T.room T.front (omega arith) refl c.index-known.ensures
+    let next = target_next _ _ _ _ _ _ _ _ _ _ _ _ T.room T.front (omega arith) refl
+    c.index-known.ensures
     _ c.min.ensures _ c.from-found.ensures in
     record { room = next.0; front = next.1 }
 
@@ -87,8 +93,10 @@ returns-clause-table c =
     let I = c.loop-head.invariant in
     let n = length-queue _ _ _ I.room in
     finished _ _ _ _ I.search (elim c.loop-head-test.branch [
-      | then-loop-head-test+else-found-count w ↦ all_found _ _ _ _ _ c.known.ensures I.search I.before
-          (λ l. I.near (omega arith)) (omega (arith, w.if-found-count.false, c.vertices-count.ensures))
+      | then-loop-head-test+else-found-count w ↦ all_found _ _ _ _ _ c.known.ensures I.search
+          I.before
+          (λ l. I.near (omega arith))
+          (omega (arith, w.if-found-count.false, c.vertices-count.ensures))
       | else-loop-head-test w ↦ subst
           (λ k. IsDone c.args.graph.now c.loop-head.table.items
           (take c.loop-head.found c.loop-head.queue.items) k)

@@ -10,8 +10,14 @@ overflow_mul-number c = let few = c.loop-count.invariant.few
     in omega (arith, part_small _ _ _ c.loop-count.invariant (omega arith))
 
 pub overflow_add-number : goal.overflow_add-number
-overflow_add-number c = let few = c.loop-count.invariant.few in let bound = c.is_ascii_digit.ensures.bound
-    in omega (arith, part_small _ _ _ c.loop-count.invariant (omega arith), c.from.ensures, c.from.type_inv)
+overflow_add-number c = let few = c.loop-count.invariant.few in let bound =
+    c.is_ascii_digit.ensures.bound
+    in omega (
+      arith,
+      part_small _ _ _ c.loop-count.invariant (omega arith),
+      c.from.ensures,
+      c.from.type_inv,
+    )
 
 pub loop-count-preserved : goal.loop-count-preserved
 loop-count-preserved c =

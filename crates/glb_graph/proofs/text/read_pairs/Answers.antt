@@ -1,6 +1,7 @@
 use Rattle.std.proofs.Common.{arith, subst, sym}
 use Rattle.glb_graph.specs.GraphText.{lines_of}
-use Rattle.glb_graph.proofs.ReadFacts.{IsSoFar, says_none, says_bad, so_begin, so_more, so_missing, so_bad, so_extra, so_done, pushed_pairs}
+use Rattle.glb_graph.proofs.ReadFacts.{IsSoFar, says_none, says_bad, so_begin, so_more, so_missing}
+use Rattle.glb_graph.proofs.ReadFacts.{so_bad, so_extra, so_done, pushed_pairs}
 use Rattle.glb_graph.proofs.LineFacts.{lines_none, some_line}
 use Rattle.glb_graph.proofs.text.read_pairs.Goals as goal
 
@@ -14,7 +15,8 @@ returns-in_default-clause-fault c = let l = some_line _ (omega arith)
 pub loop-number-init : goal.loop-number-init
 loop-number-init c =
     let b = c.in-Some.ensures.some in
-    let s = so_begin (lines_of c.args.bytes.now) b.line (lines_of c.in-Some.after.now) c.in-Some.vertices
+    let s = so_begin (lines_of c.args.bytes.now) b.line (lines_of c.in-Some.after.now)
+    c.in-Some.vertices
     c.in-Some.edges b.lines_are b.such c.if-vertices-gt-MOST_VERTICES.false
     c.if-edges-gt-MOST_EDGES.false in
     subst (λ ps. IsSoFar (lines_of c.args.bytes.now) c.in-Some.vertices c.in-Some.edges 0 ps

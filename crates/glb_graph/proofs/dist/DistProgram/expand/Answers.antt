@@ -1,5 +1,5 @@
 use Rattle.std.proofs.Common.{◌∙◌}
-use Rattle.glb_graph.proofs.WorthFacts.{spots_none, spots_more}
+use Rattle.glb_graph.proofs.ValueFacts.{spots_none, spots_more}
 use Rattle.glb_graph.proofs.dist.DistProgram.expand.Goals as goal
 
 pub loop-vertex-init : goal.loop-vertex-init

@@ -1,18 +1,23 @@
--- What a vertex is worth.
-use Rattle.std.proofs.Common.{◌≡◌, ◌≢◌, ℕ, zero, suc, ◌+◌, ◌*◌, ◌<◌, ◌≤◌, max, Bool, true, false, cond, ◌⊎◌, List, [], ◌∷◌, ◌++◌, length, get_or, inl, inr, refl, sym, ◌∙◌, ap, arith, add-one, nat_eq, Option, None, Some, Contains, eq-eqb, append-nil, append_assoc, length-append}
+-- The value of a vertex.
+use Rattle.std.proofs.Common.{◌≡◌, ◌≢◌, ℕ, zero, suc, ◌+◌, ◌*◌, ◌<◌, ◌≤◌, max, Bool, true, false}
+use Rattle.std.proofs.Common.{cond, ◌⊎◌, List, [], ◌∷◌, ◌++◌, length, get_or, inl, inr, refl, sym}
+use Rattle.std.proofs.Common.{◌∙◌, ap, arith, add-one, nat_eq, Option, None, Some, Contains, eq-eqb}
+use Rattle.std.proofs.Common.{append-nil, append_assoc, length-append}
 use Rattle.std.proofs.lemmas.Bool.{cases_eq, ne_eqb, eqb-true}
-use Rattle.glb_laws.specs.Bounded.{sat_sum, greatest}
-use Rattle.glb_laws.specs.Pair.{both}
+use Rattle.glb_laws.specs.Tallies.{tallies}
 use Rattle.glb_graph.specs.declared.dist.Spot.{Spot}
 use Rattle.glb_graph.specs.declared.dist.Spot.TheVariants.{Vertex}
 use Rattle.glb_graph.specs.Rows.{targets_of}
 use Rattle.glb_graph.specs.Walks.{Walk}
-use Rattle.glb_graph.specs.Tables.{IsTable, unseen, shown}
+use Rattle.glb_graph.specs.inner.Tables.{IsTable, unseen, shown}
 use Rattle.glb_graph.specs.Spots.{spots}
-use Rattle.glb_graph.specs.Distances.{capped, any_of, is_walk, or_else, first_below, distance, one_for, steps_for, reached_of, sum_of, greatest_of, worth}
+use Rattle.glb_graph.specs.Distances.{capped, any_of, is_walk, or_else, first_below, distance}
+use Rattle.glb_graph.specs.Distances.{one_for, steps_for, reached_of, sum_of, greatest_of, value_of}
+use Rattle.glb_graph.proofs.SumFacts.{sum_to-same, greatest_to-same, same_tallies}
 
 -- an element that passes the test
-any_of-contains : (test : ℕ → Bool) (xs : List ℕ) (k : ℕ) (x : ℕ) → k < length xs → get_or xs k x ≡ x
+any_of-contains : (test : ℕ → Bool) (xs : List ℕ) (k : ℕ) (x : ℕ) → k < length xs
+    → get_or xs k x ≡ x
     → test x ≡ true → any_of test xs ≡ true
 unfolding any_of
 any_of-contains test [] k x l e y = absurd (omega arith)
@@ -31,23 +36,27 @@ unfolding any_of
 contains-any_of test [] e = absurd (cc)
 contains-any_of test (z ∷ xs) e = part (test z) refl (contains-any_of test xs) e
   where
-    part : (b : Bool) → test z ≡ b → (any_of test xs ≡ true → (x : ℕ) × Contains xs x × (test x ≡ true))
+    part : (b : Bool) → test z ≡ b
+        → (any_of test xs ≡ true → (x : ℕ) × Contains xs x × (test x ≡ true))
         → cond b true (any_of test xs) ≡ true → (x : ℕ) × Contains (z ∷ xs) x × (test x ≡ true)
     part true t below e = (z, (0, omega arith, refl), t)
-    part false t below e = let r = below e in (r.0, (suc r.1.0, let l = r.1.1 in omega arith, r.1.2), r.2)
+    part false t below e = let r =
+        below e in (r.0, (suc r.1.0, let l = r.1.1 in omega arith, r.1.2), r.2)
 
 -- the test finds each walk
 pub walk-is_walk : (rows : List (List ℕ)) (s t n : ℕ) → Walk rows s t n → is_walk rows s t n ≡ true
 unfolding is_walk
 walk-is_walk rows s t zero w = eq-eqb s t w
 walk-is_walk rows s t (suc n) (m, (k, l, e), w) =
-    any_of-contains (λ m. is_walk rows m t n) (targets_of rows s) k m l e (walk-is_walk rows m t n w)
+    any_of-contains (λ m. is_walk rows m t n) (targets_of rows s) k m l e
+    (walk-is_walk rows m t n w)
 
 -- what the test finds is a walk
 pub is_walk-walk : (rows : List (List ℕ)) (s t n : ℕ) → is_walk rows s t n ≡ true → Walk rows s t n
 unfolding is_walk
 is_walk-walk rows s t zero e = eqb-true s t e
-is_walk-walk rows s t (suc n) e = let r = contains-any_of (λ m. is_walk rows m t n) (targets_of rows s) e
+is_walk-walk rows s t (suc n) e = let r =
+    contains-any_of (λ m. is_walk rows m t n) (targets_of rows s) e
     in (r.0, r.1, is_walk-walk rows r.0 t n r.2)
 
 -- what is not true is false
@@ -60,7 +69,8 @@ pub first_below-none : (test : ℕ → Bool) (n : ℕ) → ((k : ℕ) → k < n 
     → first_below test n ≡ None
 unfolding first_below or_else
 first_below-none test zero f = refl
-first_below-none test (suc n) f = rw (first_below-none test n (λ k l. f k (omega arith)), f n (omega arith))
+first_below-none test (suc n) f =
+    rw (first_below-none test n (λ k l. f k (omega arith)), f n (omega arith))
 
 -- a number that passes after others that do not is the first
 pub first_below-some : (test : ℕ → Bool) (n d : ℕ) → d < n → ((k : ℕ) → k < d → test k ≡ false)
@@ -88,35 +98,21 @@ shown_is rows s table T t l = elim (cases_eq (get_or table t 0) unseen) [
       (walk-is_walk rows s t _ (T.reached t l ne).0)))
 ]
 
--- equal distances, as many reached vertices
-reached_same : (f g : ℕ → Option ℕ) (s n : ℕ) → ((t : ℕ) → t < n → f t ≡ g t)
-    → reached_of f s n ≡ reached_of g s n
-unfolding reached_of
-reached_same f g s zero e = refl
-reached_same f g s (suc n) e = rw (reached_same f g s n (λ t l. e t (omega arith)), e n (omega arith))
+-- equal distances, one value
+value_same : (f g : ℕ → Option ℕ) (s n : ℕ) → ((t : ℕ) → t < n → f t ≡ g t)
+    → value_of f s n ≡ value_of g s n
+value_same f g s n e =
+    let steps = λ (t : ℕ) (l : t < n). ap steps_for (e t l) in
+    same_tallies _ _ _ _ _ _
+    (ap capped (sum_to-same n _ _ (λ t l. ap (one_for s t) (e t l))))
+    (ap capped (sum_to-same n _ _ steps)) (ap capped (greatest_to-same n _ _ steps))
 
--- equal distances, one sum
-sum_same : (f g : ℕ → Option ℕ) (n : ℕ) → ((t : ℕ) → t < n → f t ≡ g t) → sum_of f n ≡ sum_of g n
-unfolding sum_of
-sum_same f g zero e = refl
-sum_same f g (suc n) e = rw (sum_same f g n (λ t l. e t (omega arith)), e n (omega arith))
-
--- equal distances, one greatest
-greatest_same : (f g : ℕ → Option ℕ) (n : ℕ) → ((t : ℕ) → t < n → f t ≡ g t)
-    → greatest_of f n ≡ greatest_of g n
-unfolding greatest_of
-greatest_same f g zero e = refl
-greatest_same f g (suc n) e = rw (greatest_same f g n (λ t l. e t (omega arith)), e n (omega arith))
-
--- equal distances, one worth
-worth_same : (f g : ℕ → Option ℕ) (s n : ℕ) → ((t : ℕ) → t < n → f t ≡ g t) → worth f s n ≡ worth g s n
-worth_same f g s n e = rw (reached_same f g s n e, sum_same f g n e, greatest_same f g n e)
-
--- what the table is worth is what the vertex is worth
-pub table_worth : (rows : List (List ℕ)) (s : ℕ) (table : List ℕ) → IsTable rows s table
-    → worth (shown table) s (length table) ≡ worth (distance rows s) s (length rows)
-table_worth rows s table T =
-    rw T.same_length (worth_same (shown table) (distance rows s) s (length rows) (shown_is rows s table T))
+-- the value that the table shows is that of the vertex
+pub table_value : (rows : List (List ℕ)) (s : ℕ) (table : List ℕ) → IsTable rows s table
+    → value_of (shown table) s (length table) ≡ value_of (distance rows s) s (length rows)
+table_value rows s table T =
+    rw T.same_length
+    (value_same (shown table) (distance rows s) s (length rows) (shown_is rows s table T))
 
 -- a tally of the vertices below i
 pub record IsTally (table : List ℕ) (s i reached sum greatest : ℕ) : Type 0 where
@@ -129,7 +125,6 @@ pub record IsTally (table : List ℕ) (s i reached sum greatest : ℕ) : Type 0 
 
 -- at first nothing is counted
 pub tally_none : (table : List ℕ) (s : ℕ) → IsTally table s 0 0 0 0
-unfolding reached_of sum_of greatest_of
 tally_none table s =
     record {
       reached_is = refl;
@@ -141,9 +136,10 @@ tally_none table s =
     }
 
 -- a vertex that is not reached
-pub tally_skip : (table : List ℕ) (s i reached sum greatest : ℕ) → IsTally table s i reached sum greatest
+pub tally_skip : (table : List ℕ) (s i reached sum greatest : ℕ)
+    → IsTally table s i reached sum greatest
     → get_or table i 0 ≡ unseen → IsTally table s (i + 1) reached sum greatest
-unfolding shown reached_of sum_of greatest_of one_for steps_for
+unfolding shown one_for steps_for
 tally_skip table s i reached sum greatest T e =
     let b : nat_eq (get_or table i 0) unseen ≡ true = eq-eqb _ _ e in
     record {
@@ -160,7 +156,7 @@ pub tally_take : (table : List ℕ) (s i reached sum greatest d more : ℕ)
     → IsTally table s i reached sum greatest → d ≡ get_or table i 0 → d ≢ unseen → d < 20000
     → more ≡ cond (nat_eq i s) 0 1 → more ≤ 1
     → IsTally table s (i + 1) (reached + more) (sum + d) (max greatest d)
-unfolding shown reached_of sum_of greatest_of one_for steps_for
+unfolding shown one_for steps_for
 tally_take table s i reached sum greatest d more T e ne l m one =
     let b : nat_eq (get_or table i 0) unseen ≡ false = ne_eqb _ _ (λ x. ne (e ∙ x)) in
     record {
@@ -191,7 +187,8 @@ tally_took table s i reached sum greatest d more reached' sum' greatest' T e ne 
 
 -- the same of a vertex that is not reached
 pub tally_skipped : (table : List ℕ) (s i reached sum greatest reached' sum' greatest' : ℕ)
-    → IsTally table s i reached sum greatest → get_or table i 0 ≡ unseen → reached' ≡ reached → sum' ≡ sum
+    → IsTally table s i reached sum greatest → get_or table i 0 ≡ unseen → reached' ≡ reached
+    → sum' ≡ sum
     → greatest' ≡ greatest → IsTally table s (i + 1) reached' sum' greatest'
 tally_skipped table s i reached sum greatest reached' sum' greatest' T e p q r =
     let U = tally_skip table s i reached sum greatest T e in
@@ -204,22 +201,15 @@ tally_skipped table s i reached sum greatest reached' sum' greatest' T e p q r =
       small = omega (arith, r, U.small);
     }
 
--- at the end the three numbers are what the table is worth
-pub tally_worth : (table : List ℕ) (s i n reached sum greatest' : ℕ)
+-- at the end the three numbers are the value that the table shows
+pub tally_value : (table : List ℕ) (s i n reached sum greatest' : ℕ)
     → IsTally table s i reached sum greatest' → i ≡ n → n ≤ 20000
-    → both (sat_sum reached) (both (sat_sum sum) (greatest greatest')) ≡ worth (shown table) s n
-tally_worth table s i n reached sum greatest' T e few =
-    let a : reached ≡ capped (reached_of (shown table) s n) =
-    omega (arith, T.reached_is, T.few, ap (reached_of (shown table) s) e) in
-    let b : sum ≡ capped (sum_of (shown table) n) =
-    omega (arith, T.sum_is, T.low, ap (sum_of (shown table)) e) in
-    let d : greatest' ≡ capped (greatest_of (shown table) n) =
-    omega (arith, T.greatest_is, T.small, ap (greatest_of (shown table)) e) in
-    ap (λ x. both (sat_sum x) (both (sat_sum sum) (greatest greatest'))) a
-    ∙ ap (λ x. both (sat_sum (capped (reached_of (shown table) s n)))
-    (both (sat_sum x) (greatest greatest'))) b
-    ∙ ap (λ x. both (sat_sum (capped (reached_of (shown table) s n)))
-    (both (sat_sum (capped (sum_of (shown table) n))) (greatest x))) d
+    → tallies reached sum greatest' ≡ value_of (shown table) s n
+tally_value table s i n reached sum greatest' T e few =
+    same_tallies _ _ _ _ _ _
+    (omega (arith, T.reached_is, T.few, ap (reached_of (shown table) s) e))
+    (omega (arith, T.sum_is, T.low, ap (sum_of (shown table)) e))
+    (omega (arith, T.greatest_is, T.small, ap (greatest_of (shown table)) e))
 
 -- each entry of a table is the mark or small
 pub table_small : (rows : List (List ℕ)) (s : ℕ) (table : List ℕ) → IsTable rows s table
@@ -243,7 +233,8 @@ unfolding spots
 spots_none xs = sym (append-nil xs)
 
 -- one more vertex is appended
-pub spots_more : (xs ys zs : List Spot) (n : ℕ) → ys ≡ xs ++ spots n → zs ≡ ys ++ Vertex n ∷ [] → zs ≡ xs
+pub spots_more : (xs ys zs : List Spot) (n : ℕ) → ys ≡ xs ++ spots n → zs ≡ ys ++ Vertex n ∷ []
+    → zs ≡ xs
     ++ spots (n + 1)
 unfolding spots
 spots_more xs ys zs n p q =
