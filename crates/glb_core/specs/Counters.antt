@@ -2,9 +2,9 @@
 use Rattle.std.specs.Prelude.{ℕ, ◌-◌, ◌^◌, ◌<◌, Bool, List, map, min}
 use Rattle.std.specs.List.{range_with_len}
 use Rattle.glb_stats.specs.declared.counters.Counters.{Counters}
-use Rattle.glb_core.specs.World.{Setup, World}
-use Rattle.glb_core.specs.Setups.{degree}
-use Rattle.glb_core.specs.declared.part.Counts.{Counts}
+use Rattle.glb_rules.specs.World.{Setup, World}
+use Rattle.glb_rules.specs.Setups.{degree}
+use Rattle.glb_rules.specs.declared.local.Counts.{Counts}
 
 -- each number, or the last value of its type where the number is greater
 abbrev pub counters_of : Counts → Counters
@@ -24,13 +24,15 @@ counters_of c = record {
   wakes = min c.wakes (2 ^ 64 - 1);
 }
 
--- for each place, by number: its counters, how many lines it has, and whether it was awake at the start
+-- the counters of each place, by number
 abbrev pub all_counters : {I : Type 0} → Setup → World I → List Counters
 all_counters s w = map (λ p. counters_of (w.place p).count) (range_with_len 0 s.places)
 
+-- how many lines each has
 abbrev pub all_degrees : Setup → List ℕ
 all_degrees s = map (degree s) (range_with_len 0 s.places)
 
+-- whether each was awake at the start
 abbrev pub all_awake : Setup → List Bool
 all_awake s = map s.awake (range_with_len 0 s.places)
 

@@ -1,12 +1,12 @@
 //! The decision of a place, by walks over what it sees.
 ghost use Rattle.std.specs.Prelude.{◌≡◌, ◌≢◌, ℕ, List, None};
-ghost use Rattle.glb_core.specs.Sight.{sight};
-ghost use Rattle.glb_core.specs.Decision.{decide, by_credit, by_phase, not_working, waiting, first, is_unseen, is_pending, is_asked, is_held, is_idle, wants, has_loot, MintedSeesWant};
+ghost use Rattle.glb_core.specs.Seen.{sight};
+ghost use Rattle.glb_rules.specs.Decision.{decide, by_credit, by_phase, resting_action};
+ghost use Rattle.glb_rules.specs.Decision.{waiting_action, first, is_unseen, is_pending, is_asked};
+ghost use Rattle.glb_rules.specs.Decision.{is_remembered, is_idle, is_wanted, has_loot};
+ghost use Rattle.glb_rules.specs.Decision.{MintedSeesWant};
 
-use super::event::{Action, Event};
-use super::kinds::{Credit, Edge, Kind, Mark, Phase};
-use super::place_state::PlaceState;
-use super::seen::{InEdge, OutEdge, Seen};
+use crate::{Action, Credit, Edge, Event, InEdge, Kind, Mark, OutEdge, Phase, PlaceState, Seen};
 
 /// What a place does next. Every driver plays a place by it.
 pub fn next(state: &PlaceState, seen: &Seen) -> Action
@@ -79,7 +79,7 @@ fn next_working(state: &PlaceState, seen: &Seen) -> Action
 }
 
 fn next_not_working(state: &PlaceState, seen: &Seen) -> Action
-    ensures { result ≡ not_working state.now.phase state.now (sight seen.now) }
+    ensures { result ≡ resting_action state.now.phase state.now (sight seen.now) }
 {
     match state.phase {
         Phase::Working | Phase::Gone => Action::Poll,
@@ -93,7 +93,7 @@ fn next_not_working(state: &PlaceState, seen: &Seen) -> Action
 }
 
 fn next_idle(state: &PlaceState, seen: &Seen) -> Action
-    ensures { result ≡ not_working Phase.Idle state.now (sight seen.now) }
+    ensures { result ≡ resting_action Phase.Idle state.now (sight seen.now) }
 {
     let place = state.place;
     let answers = answers_of(&seen.outs);
@@ -118,7 +118,7 @@ fn next_idle(state: &PlaceState, seen: &Seen) -> Action
 }
 
 fn next_waiting(state: &PlaceState, victim: u32, kind: Kind, waited: Edge) -> Action
-    ensures { result ≡ waiting state.now victim kind waited }
+    ensures { result ≡ waiting_action state.now victim kind waited }
 {
     let place = state.place;
     match waited {
@@ -166,7 +166,7 @@ struct Requests {
 }
 
 fn requests_of(ins: &[InEdge]) -> Requests
-    ensures wanting { result.wanting ≡ first wants ins.now }
+    ensures wanting { result.wanting ≡ first is_wanted ins.now }
     ensures pending { result.pending ≡ first is_pending ins.now }
 {
     let mut wanting = None;
@@ -189,13 +189,13 @@ fn requests_of(ins: &[InEdge]) -> Requests
 
 /// The request over this lifeline was refused, and is remembered.
 fn is_remembered(edge: &InEdge) -> bool
-    ensures { result ≡ is_held edge.now }
+    ensures { result ≡ is_remembered edge.now }
 {
     matches!((edge.kind, edge.edge), (Kind::Line, Edge::Refused))
 }
 
 fn first_wanting(ins: &[InEdge]) -> Option<InEdge>
-    ensures { result ≡ first wants ins.now }
+    ensures { result ≡ first is_wanted ins.now }
 {
     for edge in ins {
         if matches!(edge.mark, Mark::Pending) || is_remembered(edge) {

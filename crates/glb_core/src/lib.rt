@@ -1,26 +1,21 @@
-//! The scheduler's core: worlds of places and their events, what holds of every world that events
-//! reach, and the decision by which every driver plays a place.
+//! The scheduler's core: what a place sees, the decision by which every driver plays it, and worlds
+//! of places with real bags. The rules and their laws are those of glb_rules, whose names stand
+//! here too.
 #![tactic(auto)]
 
-mod choice;
 mod decision;
-mod event;
-mod kinds;
 pub mod laws;
-mod params;
-mod part;
-mod place_state;
 mod seen;
 #[cfg(test)]
 mod tests;
+mod victims;
 mod world;
 
-pub use choice::victim;
 pub use decision::next;
-pub use event::{Action, Event, StepFault};
-pub use kinds::{Credit, Edge, Kind, Mark, Phase, Side};
-pub use params::Params;
-pub use part::{Counts, EdgeName, MarkOn, Part};
-pub use place_state::PlaceState;
-pub use seen::{InEdge, OutEdge, Seen};
+pub use glb_rules::{
+    Action, Counts, Credit, Edge, EdgeName, Event, InEdge, Kind, Local, Mark, MarkOn, OutEdge,
+    Params, Phase, PlaceState, Side, StepFault, tries_of, victim,
+};
+pub use seen::Seen;
+pub use victims::first_victim;
 pub use world::World;

@@ -1,27 +1,13 @@
 //! What a place sees of the others.
 ghost use Rattle.std.specs.Prelude.{◌≡◌, ◌<◌, ◌==◌, ◌++◌, not, map, IfOk, OnOk};
-ghost use Rattle.glb_core.specs.Sight.{sight, each_below, first_steal_in, first_line_in, first_line_out, first_sight, IsMadeFor};
+ghost use Rattle.glb_core.specs.Seen.{sight, first_steal_in, first_line_in, first_line_out};
+ghost use Rattle.glb_core.specs.Seen.{first_sight, IsMadeFor};
+ghost use Rattle.glb_rules.specs.Sight.{each_below};
 
-use super::kinds::{Edge, Kind, Mark};
+use crate::{Edge, InEdge, Kind, Mark, OutEdge};
 use glb_cube::Lines;
 use glb_laws::NoMemory;
 use std::alloc::Global;
-
-/// An edge whose victim the place is.
-#[derive(Clone, Copy, Debug, PartialEq, Eq)]
-pub struct InEdge {
-    pub thief: u32,
-    pub kind: Kind,
-    pub mark: Mark,
-    pub edge: Edge,
-}
-
-/// A lifeline of the place.
-#[derive(Clone, Copy, Debug, PartialEq, Eq)]
-pub struct OutEdge {
-    pub victim: u32,
-    pub edge: Edge,
-}
 
 /// All that a place sees: its in-edges, the steal edges by rising thief and then the lines by
 /// rising thief; its lines by rising dimension; the edge that it waits on, which says nothing in

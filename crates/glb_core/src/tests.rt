@@ -1,3 +1,2 @@
 //! Worked cases.
 mod decisions;
-mod worlds;

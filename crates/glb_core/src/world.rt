@@ -2,24 +2,28 @@
 //! speak.
 mod conditions;
 mod effects;
-mod events;
 mod items;
-mod seat;
+mod layout;
+mod report;
+mod rows;
 mod sight;
 mod start;
+mod steps;
 mod tables;
 
-ghost use Rattle.std.specs.Prelude.{◌≡◌, ◌≢◌, ℕ, ◌+◌, ◌*◌, ◌^◌, ◌<◌, ◌≤◌, List, map, length, IfOk, IfErr, Err};
-ghost use Rattle.glb_core.specs.World.{Setup, World as Whole};
-ghost use Rattle.glb_core.specs.Lawful.{across};
+ghost use Rattle.std.specs.Prelude.{◌≡◌, ◌≢◌, ℕ, ◌+◌, ◌*◌, ◌^◌, ◌<◌, ◌≤◌, List, map, length, IfOk};
+ghost use Rattle.std.specs.Prelude.{IfErr, Err};
+ghost use Rattle.glb_rules.specs.World.{Setup, World as AbstractWorld};
+ghost use Rattle.glb_rules.specs.Lawful.{sum_of_places};
 ghost use Rattle.glb_core.specs.Counters.{all_counters};
-ghost use Rattle.glb_core.specs.Setups.{IsWithinLimits};
-ghost use Rattle.glb_core.specs.Sight.{sight as sight_of, sight_at, state_at, IsMadeFor};
-ghost use Rattle.glb_core.specs.declared.event.StepFault.TheVariants as fault;
+ghost use Rattle.glb_rules.specs.Setups.{IsWithinLimits};
+ghost use Rattle.glb_core.specs.Seen.{sight as sight_of, IsMadeFor};
+ghost use Rattle.glb_rules.specs.Sight.{sight_at, state_at};
 ghost use Rattle.glb_core.specs.Tables.{WorldView};
-ghost use Rattle.glb_core.specs.TableEffects.{NamesBelow};
-ghost use Rattle.glb_core.specs.ItemEffects.{AllFit, KeepAllFit};
-ghost use Rattle.glb_core.specs.Standing.{StandsFor, LeadsWholly, Fails, HasNoCase, StartsAt, ListsFit};
+ghost use Rattle.glb_rules.specs.Events.{NamesBelow};
+ghost use Rattle.glb_core.specs.Standing.{AllFit, KeepAllFit};
+ghost use Rattle.glb_core.specs.Standing.{IsSound, Represents, SimulatesWholly, Fails, HasNoCase};
+ghost use Rattle.glb_core.specs.Standing.{StartsAt, ListsFit};
 
 use crate::{Event, Params, PlaceState, Seen, StepFault};
 use glb_cube::Lines;
@@ -69,7 +73,7 @@ impl<P: Program, B: Bag<P>> World<P, B> {
     {
         match start::make::<P, B>(alloc, program, params, &bags) {
             Ok((mut tables, report)) => {
-                start::fill::<P, B>(&mut tables.seats, bags);
+                start::fill::<P, B>(&mut tables.place_rows, bags);
                 Ok(World { tables, report })
             }
             Err(no_memory) => Err((no_memory, bags)),
@@ -82,24 +86,25 @@ impl<P: Program, B: Bag<P>> World<P, B> {
         requires fits { AllFit B.fits self.old program.now }
         requires total { self.old.total ≤ 2 ^ 41 }
         ensures step { IfOk result
-            (λ k. LeadsWholly B.items (P.children program.now) (P.value program.now) P.Value.combine
+            (λ k. SimulatesWholly B.items (P.children program.now)
+            (P.value program.now) P.Value.combine
             P.Value.unit self.old event k self.new) }
         ensures fault { IfErr result
             (λ f. Fails B.items (P.children program.now) (P.value program.now) P.Value.combine
             P.Value.unit self.old event self.new f) }
         ensures exact { HasNoCase {I = P.Item} B.items self.old event → result
-            ≡ Err fault.NotEnabled }
+            ≡ Err StepFault.NotEnabled }
         ensures fits { KeepAllFit B.fits self.old self.new }
         ensures graph { self.new.cube ≡ self.old.cube }
         ensures params { self.new.params ≡ self.old.params }
     {
-        events::step::<P, B>(&mut self.tables, program, event)
+        steps::step::<P, B>(&mut self.tables, program, event)
     }
 
     /// The place's own state.
     pub fn state(&self, place: u32) -> PlaceState
         requires { place < self.now.cube.places }
-        ensures { (s : Setup) (w : Whole P.Item) → StandsFor B.items s self.now w →
+        ensures { (s : Setup) (w : AbstractWorld P.Item) → Represents B.items s self.now w →
             result ≡ state_at self.now.params.seed s w place }
     {
         sight::state::<P, B>(&self.tables, place)
@@ -109,7 +114,7 @@ impl<P: Program, B: Bag<P>> World<P, B> {
     pub fn look_round(&self, place: u32, seen: &mut Seen)
         requires place { place < self.now.cube.places }
         requires made { IsMadeFor self.now.cube place (sight_of seen.old) }
-        ensures seen { (s : Setup) (w : Whole P.Item) → StandsFor B.items s self.now w
+        ensures seen { (s : Setup) (w : AbstractWorld P.Item) → Represents B.items s self.now w
             → sight_of seen.new ≡ sight_at s w place }
         ensures made { IsMadeFor self.now.cube place (sight_of seen.new) }
     {
@@ -126,7 +131,9 @@ impl<P: Program, B: Bag<P>> World<P, B> {
     /// The number of credits and of parts that travel: the run is finished where it is 0.
     pub fn live(&self) -> u64
         ensures live { result ≡ self.now.live }
-        ensures world { (s : Setup) (w : Whole P.Item) → StandsFor B.items s self.now w → result
+        ensures sound { IsSound {I = P.Item} B.items self.now }
+        ensures world { (s : Setup) (w : AbstractWorld P.Item) → Represents B.items s self.now w
+            → result
             ≡ w.live }
     {
         self.tables.live
@@ -135,7 +142,8 @@ impl<P: Program, B: Bag<P>> World<P, B> {
     /// The greatest code of a Halt, or 0.
     pub fn stop(&self) -> u64
         ensures stop { result ≡ self.now.stop }
-        ensures world { (s : Setup) (w : Whole P.Item) → StandsFor B.items s self.now w → result
+        ensures world { (s : Setup) (w : AbstractWorld P.Item) → Represents B.items s self.now w
+            → result
             ≡ w.stop }
     {
         self.tables.stop
@@ -144,20 +152,22 @@ impl<P: Program, B: Bag<P>> World<P, B> {
     /// How many items were expanded.
     pub fn total(&self) -> u64
         ensures total { result ≡ self.now.total }
-        ensures world { (s : Setup) (w : Whole P.Item) → StandsFor B.items s self.now w →
-            result ≡ across s w (λ a. a.count.items) }
+        ensures world { (s : Setup) (w : AbstractWorld P.Item) → Represents B.items s self.now w →
+            result ≡ sum_of_places s w (λ a. a.count.items) }
     {
         self.tables.total
     }
 
+    /// The report of the run: how many items were expanded, what their values combine to, and the
+    /// counters of each place.
     pub fn into_report(self) -> Report<P::Value>
         ensures items { result.items ≡ self.total }
         ensures value { result.value ≡ self.value }
-        ensures counters { result.counters.items ≡ map (λ y. y.counters) self.seats }
-        ensures world { (s : Setup) (w : Whole P.Item) → StandsFor B.items s self w
+        ensures counters { result.counters.items ≡ map (λ y. y.counters) self.place_rows }
+        ensures world { (s : Setup) (w : AbstractWorld P.Item) → Represents B.items s self w
             → result.counters.items ≡ all_counters s w }
     {
         let World { tables, report } = self;
-        sight::report(tables, report)
+        report::report(tables, report)
     }
 }

@@ -1,10 +1,12 @@
 -- Lists side by side: what is looked round with, and the bags of the roots.
-use Rattle.std.proofs.Common.{◌≡◌, ℕ, zero, suc, List, [], ◌∷◌, ◌++◌, length, map, get_or, refl, ap, ◌∙◌, append-nil}
+use Rattle.std.proofs.Common.{◌≡◌, ℕ, zero, suc, List, [], ◌∷◌, ◌++◌, length, map, get_or, refl, ap}
+use Rattle.std.proofs.Common.{◌∙◌, append-nil}
 use Rattle.std.specs.List.Sorted.{IsPermutation}
 use Rattle.std.proofs.lemmas.List.{nil_from_length}
 use Rattle.std.proofs.lemmas.List.Sorted.{IsPermutation-refl}
 
--- the lists have the same length, and each member of the one has the items of that of the other, up to order
+-- the lists have the same length, and each member of the one has the items of that of the other, up
+-- to order
 abbrev pub Matches : {A B I : Type 0} → (A → List I) → (B → List I) → List A → List B → Type 0
 Matches of items [] [] = Unit {0}
 Matches of items (x ∷ xs) (b ∷ bs) = IsPermutation (of x) (items b) × Matches of items xs bs

@@ -1,29 +1,33 @@
 -- A place that looks at its in-edges: at which next, and what a look changes of what it sees.
 use Rattle.std.specs.Prelude.{Some}
-use Rattle.std.proofs.Common.{◌≡◌, ◌≢◌, ℕ, zero, suc, ◌+◌, ◌<◌, ◌⊎◌, Bool, true, false, not, cond, ◌==◌, ◌||◌, List, [], ◌∷◌, ◌++◌, length, map, get_or, set, refl, sym, ap, ◌∙◌, subst, inl, inr, ⊎_elim, arith}
+use Rattle.std.proofs.Common.{◌≡◌, ◌≢◌, ℕ, zero, suc, ◌+◌, ◌<◌, ◌⊎◌, Bool, true, false, not, cond}
+use Rattle.std.proofs.Common.{◌==◌, ◌||◌, List, [], ◌∷◌, ◌++◌, length, map, get_or, set, refl, sym}
+use Rattle.std.proofs.Common.{ap, ◌∙◌, subst, inl, inr, ⊎_elim, arith}
 use Rattle.std.proofs.lemmas.Bool.{cases_eq}
-use Rattle.std.proofs.lemmas.List.{get_or-map, get_or-set_same, get_or-set_other, length-map, map-append}
-use Rattle.glb_core.specs.World.{Setup, World, has_edge, mark_at, put_mark, state_of}
-use Rattle.glb_core.specs.Effects.{looked}
-use Rattle.glb_core.specs.Steps.{Step}
-use Rattle.glb_core.specs.Decision.{decide, by_credit, by_phase, first, is_unseen, or_else, working}
-use Rattle.glb_core.specs.Sight.{Sight, IsIn, each_below, sight_at, state_at, in_edge, in_edges, out_edge, edge_waited}
-use Rattle.glb_core.specs.declared.kinds.Kind.{Kind}
-use Rattle.glb_core.specs.declared.kinds.Kind.TheVariants as kind
-use Rattle.glb_core.specs.declared.kinds.Edge.{Edge}
-use Rattle.glb_core.specs.declared.kinds.Edge.TheVariants as seen
-use Rattle.glb_core.specs.declared.kinds.Phase.{Phase}
-use Rattle.glb_core.specs.declared.kinds.Phase.TheVariants as phase
-use Rattle.glb_core.specs.declared.part.Part.{Part}
-use Rattle.glb_core.specs.declared.place_state.PlaceState.{PlaceState}
-use Rattle.glb_core.specs.declared.seen.InEdge.{InEdge}
-use Rattle.glb_core.specs.declared.event.Event.TheVariants as event
-use Rattle.glb_core.specs.declared.event.Action.TheVariants.{Do}
-use Rattle.glb_core.proofs.EdgeFacts.{set_mark_at, set_mark_else}
-use Rattle.glb_core.proofs.Frames.{kind_cases, name_cases}
-use Rattle.glb_core.proofs.ListFacts.{AllApart, distinct_append, distinct_join, in_join}
-use Rattle.glb_core.proofs.SeenFacts.{map_each}
-use Rattle.glb_turns.specs.Watches.{IsFirstUnseen, LooksAt, LooksOn, looked_at}
+use Rattle.std.proofs.lemmas.List.{get_or-map, get_or-set_same, get_or-set_other, length-map}
+use Rattle.std.proofs.lemmas.List.{map-append}
+use Rattle.glb_rules.specs.World.{Setup, World, has_edge, mark_at, put_mark, state_of}
+use Rattle.glb_rules.specs.Effects.{mark_after_look}
+use Rattle.glb_rules.specs.Steps.{Step}
+use Rattle.glb_rules.specs.Decision.{decide, by_credit, by_phase, first, is_unseen, or_else}
+use Rattle.glb_rules.specs.Decision.{working_action}
+use Rattle.glb_rules.specs.Sight.{Sight, IsIn, each_below, sight_at, state_at, in_edge, in_edges}
+use Rattle.glb_rules.specs.Sight.{out_edge, edge_waited}
+use Rattle.glb_rules.specs.declared.kinds.Kind.{Kind}
+use Rattle.glb_rules.specs.declared.kinds.Kind.TheVariants as kind
+use Rattle.glb_rules.specs.declared.kinds.Edge.{Edge}
+use Rattle.glb_rules.specs.declared.kinds.Edge.TheVariants as edge_state
+use Rattle.glb_rules.specs.declared.kinds.Phase.{Phase}
+use Rattle.glb_rules.specs.declared.kinds.Phase.TheVariants as phase
+use Rattle.glb_rules.specs.declared.local.Local.{Local}
+use Rattle.glb_rules.specs.declared.place_state.PlaceState.{PlaceState}
+use Rattle.glb_rules.specs.declared.edges.InEdge.{InEdge}
+use Rattle.glb_rules.specs.declared.event.Event.TheVariants as event
+use Rattle.glb_rules.specs.declared.event.Action.TheVariants.{Do}
+use Rattle.glb_rules.proofs.CallerLemmas.{set_mark_at, set_mark_else, kind_cases, name_cases}
+use Rattle.glb_rules.proofs.CallerLemmas.{AllApart, distinct_append, distinct_join, in_join}
+use Rattle.glb_core.proofs.CallerLemmas.{map_each}
+use Rattle.glb_turns.specs.inner.Watches.{IsFirstUnseen, LooksAt, LooksOn, looked_at}
 use Rattle.glb_turns.specs.declared.watch.Knowledge.TheVariants as knowledge
 
 -- the first member that passes
@@ -50,7 +54,7 @@ looks_decide a z at d h =
     in
     (λ i. cond (not (go i == 0) || on i) leave (by_credit (one i) a z))
     ∙ (λ i. by_phase (works i) a z)
-    ∙ ap (λ o. or_else o (λ (x : InEdge). Do (event.Look a.place x.thief x.kind)) (working a z)) found
+    ∙ ap (λ o. or_else o (λ (x : InEdge). Do (event.Look a.place x.thief x.kind)) (working_action a z)) found
 
 map_members : {A C : Type 0} (f g : A → C) (xs : List A) → ((x : A) → IsIn x xs → g x ≡ f x)
     → map g xs ≡ map f xs
@@ -64,7 +68,8 @@ get_in (x ∷ xs) zero d l = inl refl
 get_in (x ∷ xs) (suc i) d l = inr (get_in xs i d (omega arith))
 
 -- where two functions differ at one member, their lists differ there
-map_changed : {A C : Type 0} (f g : A → C) (xs : List A) (i : ℕ) (d : A) → AllApart xs → i < length xs
+map_changed : {A C : Type 0} (f g : A → C) (xs : List A) (i : ℕ) (d : A) → AllApart xs
+    → i < length xs
     → ((x : A) → x ≢ get_or xs i d → g x ≡ f x) → map g xs ≡ set (map f xs) i (g (get_or xs i d))
 map_changed f g [] i d a l h = absurd (omega arith)
 map_changed f g (x ∷ xs) zero d a l h = ap (λ ys. g x ∷ ys)
@@ -92,7 +97,8 @@ named_of s p k = each_below s.places (λ t. has_edge s k t p) (λ t. (k, t))
 abbrev named : Setup → ℕ → List Named
 named s p = named_of s p kind.Steal ++ named_of s p kind.Line
 
-in_named : (s : Setup) (p : ℕ) (k : Kind) (n : Named) → IsIn n (named_of s p k) → (j : ℕ) × (n ≡ (k, j))
+in_named : (s : Setup) (p : ℕ) (k : Kind) (n : Named) → IsIn n (named_of s p k) → (j : ℕ)
+    × (n ≡ (k, j))
 in_named s p k n h =
     let j = in_join s.places (λ t. cond (has_edge s k t p) ((k, t) ∷ []) []) n h in
     (j.0, in_bit (has_edge s k j.0 p) (k, j.0) n j.2)
@@ -135,11 +141,11 @@ module _ {I : Type 0} (children : I → List I) (s : Setup) (old new : World I) 
 
   -- a look changes a mark, and so nothing of the state
   pub look_state : (seed : ℕ) → state_at seed s new q ≡ state_at seed s old q
-  look_state seed = ap (λ (a : Part I). state_at seed s (record new { place = λ p. a }) q) st.becomes.place
+  look_state seed = ap (λ (a : Local I). state_at seed s (record new { place = λ p. a }) q) st.becomes.place
 
   marks_at : (j : Kind) (u : ℕ) → mark_at (new.place q).marks j u
-      ≡ mark_at (put_mark (old.place q).marks k t (looked (state_of (old.edge k t q)))) j u
-  marks_at j u = ap (λ (a : Part I). mark_at a.marks j u) st.becomes.place
+      ≡ mark_at (put_mark (old.place q).marks k t (mark_after_look (state_of (old.edge k t q)))) j u
+  marks_at j u = ap (λ (a : Local I). mark_at a.marks j u) st.becomes.place
 
   told_else : (n : Named) → n ≢ (k, t) → tell s new q n ≡ tell s old q n
   told_else n other =
@@ -150,16 +156,16 @@ module _ {I : Type 0} (children : I → List I) (s : Setup) (old new : World I) 
       in
       let m =
       marks_at n.0 n.1
-      ∙ set_mark_else (mark_at (old.place q).marks) k t (looked (state_of (old.edge k t q))) n.0 n.1 apart
+      ∙ set_mark_else (mark_at (old.place q).marks) k t (mark_after_look (state_of (old.edge k t q))) n.0 n.1 apart
       in
       let e = edges_stay n.0 n.1 q in
       λ i. record { thief = n.1; kind = n.0; mark = m i; edge = state_of (e i) }
 
   told_here : tell s new q (k, t)
-      ≡ record (tell s old q (k, t)) { mark = looked (state_of (old.edge k t q)) }
+      ≡ record (tell s old q (k, t)) { mark = mark_after_look (state_of (old.edge k t q)) }
   told_here =
       let m =
-      marks_at k t ∙ set_mark_at (mark_at (old.place q).marks) k t (looked (state_of (old.edge k t q)))
+      marks_at k t ∙ set_mark_at (mark_at (old.place q).marks) k t (mark_after_look (state_of (old.edge k t q)))
       in
       let e = edges_stay k t q in
       λ i. record { thief = t; kind = k; mark = m i; edge = state_of (e i) }
@@ -167,7 +173,7 @@ module _ {I : Type 0} (children : I → List I) (s : Setup) (old new : World I) 
   look_ins : (at : ℕ) (x : InEdge) → at < length (sight_at s old q).ins
       → x ≡ get_or (sight_at s old q).ins at x → x.thief ≡ t → x.kind ≡ k
       → (sight_at s new q).ins
-      ≡ set (sight_at s old q).ins at (record x { mark = looked x.edge })
+      ≡ set (sight_at s old q).ins at (record x { mark = mark_after_look x.edge })
   look_ins at x within found is_thief is_kind =
       let names : List Named = named s q in
       let before = ins_named s old q in
@@ -182,14 +188,14 @@ module _ {I : Type 0} (children : I → List I) (s : Setup) (old new : World I) 
       λ i. (sym a i, sym b i)
       in
       let is : x ≡ tell s old q d = here ∙ ap (tell s old q) name in
-      let put : tell s new q (get_or names at d) ≡ record x { mark = looked x.edge } =
-      ap (tell s new q) name ∙ told_here ∙ ap (λ (y : InEdge). record y { mark = looked y.edge }) (sym is)
+      let put : tell s new q (get_or names at d) ≡ record x { mark = mark_after_look x.edge } =
+      ap (tell s new q) name ∙ told_here ∙ ap (λ (y : InEdge). record y { mark = mark_after_look y.edge }) (sym is)
       in
       sym (ins_named s new q)
       ∙ map_changed (tell s old q) (tell s new q) names at d (named_apart s q) long
       (λ n other. told_else n (λ e. other (e ∙ sym name)))
       ∙ ap (set (map (tell s old q) names) at) put
-      ∙ ap (λ xs. set xs at (record x { mark = looked x.edge })) before
+      ∙ ap (λ xs. set xs at (record x { mark = mark_after_look x.edge })) before
 
   waited_stay : (y : Phase) → edge_waited new q y ≡ edge_waited old q y
   waited_stay phase.Working = refl
@@ -213,29 +219,30 @@ module _ {I : Type 0} (children : I → List I) (s : Setup) (old new : World I) 
       let ins = look_ins at x within found is_thief is_kind in
       let outs = outs_stay (s.outs q) in
       let waited =
-      ap (λ (a : Part I). edge_waited new q a.phase) st.becomes.place ∙ waited_stay (old.place q).phase
+      ap (λ (a : Local I). edge_waited new q a.phase) st.becomes.place ∙ waited_stay (old.place q).phase
       in
       let live = st.becomes.live in
       let stop = st.becomes.stop in
       λ i. record { ins = ins i; outs = outs i; waited = waited i; ended = live i == 0; stop = stop i }
 
 -- an in-edge at which the place has looked is not Unseen
-seen_now : (x : InEdge) → is_unseen (record x { mark = looked x.edge }) ≡ false
+seen_now : (x : InEdge) → is_unseen (record x { mark = mark_after_look x.edge }) ≡ false
 seen_now x = by x.edge
   where
-    by : (e : Edge) → is_unseen (record x { mark = looked e }) ≡ false
-    by seen.Idle = refl
-    by seen.Asked = refl
-    by seen.Refused = refl
-    by seen.Loot = refl
+    by : (e : Edge) → is_unseen (record x { mark = mark_after_look e }) ≡ false
+    by edge_state.Idle = refl
+    by edge_state.Asked = refl
+    by edge_state.Refused = refl
+    by edge_state.Loot = refl
 
--- the in-edge after the one at which the place has looked is the first one that is Unseen, if it is Unseen
+-- the in-edge after the one at which the place has looked is the first one that is Unseen, if it is
+-- Unseen
 next_first : (ins : List InEdge) (at i : ℕ) (x : InEdge) → IsFirstUnseen ins at → i ≡ at + 1
-    → i < length (set ins at (record x { mark = looked x.edge }))
-    → ((d : InEdge) → is_unseen (get_or (set ins at (record x { mark = looked x.edge })) i d) ≡ true)
-    → IsFirstUnseen (set ins at (record x { mark = looked x.edge })) i
+    → i < length (set ins at (record x { mark = mark_after_look x.edge }))
+    → ((d : InEdge) → is_unseen (get_or (set ins at (record x { mark = mark_after_look x.edge })) i d) ≡ true)
+    → IsFirstUnseen (set ins at (record x { mark = mark_after_look x.edge })) i
 next_first ins at i x h next within here =
-    let y : InEdge = record x { mark = looked x.edge } in
+    let y : InEdge = record x { mark = mark_after_look x.edge } in
     record {
       within = within;
       before = λ j d l. ⊎_elim

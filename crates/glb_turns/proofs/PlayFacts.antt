@@ -1,26 +1,28 @@
 -- What a play of a schedule rests on, and what it ends in.
-use Rattle.std.proofs.Common.{◌≡◌, ℕ, zero, suc, ◌+◌, ◌-◌, ◌*◌, ◌^◌, ◌<◌, ◌≤◌, List, [], ◌∷◌, ◌++◌, length, refl, sym, ap, subst, ◌∙◌, arith, length-append}
+use Rattle.std.proofs.Common.{◌≡◌, ℕ, zero, suc, ◌+◌, ◌-◌, ◌*◌, ◌^◌, ◌<◌, ◌≤◌, List, [], ◌∷◌, ◌++◌}
+use Rattle.std.proofs.Common.{length, refl, sym, ap, subst, ◌∙◌, arith, length-append}
 use Rattle.std.proofs.Math.Nat.{mul-le-mul, pow-le-pow_left}
 use Rattle.std.specs.Prelude.{Bool, true, false, cond, ◌==◌}
 use Rattle.glb_tree.specs.Runs.{IsTooMany}
 use Rattle.glb_tree.proofs.Sizes.{never_more}
-use Rattle.glb_core.specs.World.{Setup}
-use Rattle.glb_core.specs.Setups.{IsProper}
-use Rattle.glb_core.specs.Lawful.{across, all_done, all_left}
-use Rattle.glb_core.specs.History.{start, Run, NoHalt}
-use Rattle.glb_core.specs.Finish.{AllGone as AreGone}
-use Rattle.glb_core.specs.Rank.{bound}
-use Rattle.glb_core.specs.Schedules.{DecidedRun, ScheduledTurn, ScheduledRun}
-use Rattle.glb_core.specs.declared.params.Params.{Params}
-use Rattle.glb_core.specs.Sums.{join_to}
+use Rattle.glb_rules.specs.World.{Setup}
+use Rattle.glb_rules.specs.Setups.{IsProper}
+use Rattle.glb_rules.specs.Lawful.{sum_of_places, all_done, all_left}
+use Rattle.glb_rules.specs.History.{start, Run, NoHalt}
+use Rattle.glb_rules.specs.Finish.{AllGone as AreGone}
+use Rattle.glb_rules.specs.Bound.{bound}
+use Rattle.glb_rules.specs.Schedules.{DecidedRun, ScheduledTurn, ScheduledRun}
+use Rattle.glb_rules.specs.declared.params.Params.{Params}
+use Rattle.glb_rules.specs.Joins.{join_to}
 use Rattle.glb_core.specs.Tables.{WorldView}
-use Rattle.glb_core.specs.Standing.{StandsFor, HasFold}
-use Rattle.glb_core.proofs.LedWorlds.{IsLed}
-use Rattle.glb_core.proofs.LawfulStart.{start_lawful}
-use Rattle.glb_core.proofs.ScheduleFacts.{schedule_decides, decided_run, decided_run_halts_not, decided_run_led, start_led}
-use Rattle.glb_core.proofs.EndFacts.{run_lawful_from, run_bounded, done_count}
-use Rattle.glb_turns.specs.ScheduledRuns.{setup_for, first_numbers}
-use Rattle.glb_turns.specs.Turns.{Begins, Plays, PlaysToEnd, TakesTurn, IsPlayed}
+use Rattle.glb_core.specs.Standing.{Represents, HasFold}
+use Rattle.glb_rules.specs.Schedules.{MintersKnowWhoAsks}
+use Rattle.glb_rules.proofs.CallerLemmas.{start_lawful, run_stop, schedule_decides, decided_run}
+use Rattle.glb_rules.proofs.CallerLemmas.{decided_run_halts_not, decided_run_led, start_led}
+use Rattle.glb_rules.proofs.CallerLemmas.{run_lawful_from, run_bounded, done_count}
+use Rattle.glb_core.specs.Lifelines.{setup_for}
+use Rattle.glb_turns.specs.ScheduledRuns.{first_numbers}
+use Rattle.glb_turns.specs.inner.Turns.{Begins, Plays, PlaysToEnd, TakesTurn, IsPlayed}
 use Rattle.glb_turns.proofs.TurnFacts.{scheduled_then, scheduled_length}
 
 -- no place tries more often than the limit
@@ -56,7 +58,7 @@ module _ {B I V : Type 0} (items : B → List I) (children : I → List I) (valu
           p.events p.world p.run
 
       -- decisions alone led there
-      pub plays_led : IsLed s p.world
+      pub plays_led : MintersKnowWhoAsks s p.world
       plays_led =
           (decided_run_led children s first.params.seed P (start s bags) p.events p.world
           (start_lawful s bags (λ q l. refl)) (start_led s bags) decides).1
@@ -70,6 +72,10 @@ module _ {B I V : Type 0} (items : B → List I) (children : I → List I) (valu
       pub no_halt : NoHalt p.events
       no_halt = decided_run_halts_not children s first.params.seed (start s bags) p.events p.world decides
 
+      -- nobody has halted the run
+      pub plays_run : x.stop ≡ 0
+      plays_run = p.stands.shows.stop ∙ run_stop children s (start s bags) p.events p.world no_halt history
+
       -- there were no more turns than the bound
       pub plays_bounded : n ≤ bound s x.total
       plays_bounded =
@@ -78,7 +84,7 @@ module _ {B I V : Type 0} (items : B → List I) (children : I → List I) (valu
           p.events p.run
           in
           let few = run_bounded children s bags P (λ q l. refl) p.events p.world no_halt history in
-          let all : bound s x.total ≡ bound s (across s p.world (λ a. a.count.items)) =
+          let all : bound s x.total ≡ bound s (sum_of_places s p.world (λ a. a.count.items)) =
           ap (bound s) p.stands.total
           in
           omega (arith, events, few, all, numbers_length will n)
@@ -86,7 +92,8 @@ module _ {B I V : Type 0} (items : B → List I) (children : I → List I) (valu
       -- one turn more
       pub plays_more : (y : WorldView B V) (number : ℕ) → number ≡ will n
           → TakesTurn items children value combine unit x y number s p.world
-          → x.params ≡ first.params → Plays items children value combine unit first bags will (n + 1) y
+          → x.params ≡ first.params
+          → Plays items children value combine unit first bags will (n + 1) y
       plays_more y number is t same =
           let numbered =
           subst (λ k. ScheduledTurn children s x.params.seed p.world k t.event t.next) is t.turn
@@ -111,15 +118,14 @@ module _ {B I V : Type 0} (items : B → List I) (children : I → List I) (valu
           }
 
       -- where too many items were done, the trees have more nodes
-      pub plays_too_many : (limit : ℕ) → limit < x.total → x.total ≤ limit + first.params.batch
-          → IsTooMany children (join_to s.places bags) first.params.batch limit x.total
-      plays_too_many limit above most =
+      pub plays_too_many : (limit : ℕ) → limit < x.total
+          → IsTooMany children (join_to s.places bags) limit x.total
+      plays_too_many limit above =
           let L = run_lawful_from children s bags P (λ q l. refl) p.events p.world history in
           let count = done_count s p.world L.0 in
           let total = p.stands.total in
           record {
             above = above;
-            last_batch = most;
             large = λ small. omega (
               arith,
               never_more children (join_to s.places bags) (all_done s p.world)
@@ -139,7 +145,7 @@ module _ {B I V : Type 0} (items : B → List I) (children : I → List I) (valu
           events = p.events;
           world = p.world;
           run = p.run;
-          stands = subst (λ z. StandsFor items s z p.world) (sym same) p.stands;
+          stands = subst (λ z. Represents items s z p.world) (sym same) p.stands;
           fold = subst (λ z. HasFold value combine unit s z p.world) (sym same) p.fold;
         };
         all_gone = gone;

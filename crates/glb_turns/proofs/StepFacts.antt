@@ -1,76 +1,28 @@
 -- What the step of a decision leads to.
-use Rattle.std.proofs.Common.{◌≡◌, ◌≢◌, ℕ, ◌+◌, ◌-◌, ◌*◌, ◌/◌, ◌%◌, ◌<◌, ◌≤◌, List, sym, ap, subst, ◌∙◌, inl, inr, ⊎_elim, arith}
+use Rattle.std.proofs.Common.{◌≡◌, ◌≢◌, ℕ, ◌+◌, ◌-◌, ◌*◌, ◌/◌, ◌%◌, ◌<◌, ◌≤◌, List, sym, ap, subst}
+use Rattle.std.proofs.Common.{◌∙◌, inl, inr, ⊎_elim, arith}
 use Rattle.std.specs.Prelude.{nat_lt}
 use Rattle.std.proofs.lemmas.Bool.{cases_Bool, ltb-true, ltb-false}
 use Rattle.std.proofs.lemmas.Nat.{mod_below, mod-mul-add, div-add-mod'}
-use Rattle.glb_core.specs.Finish.{AllGone}
-use Rattle.glb_core.specs.World.{Setup, World}
-use Rattle.glb_core.specs.Setups.{IsProper}
-use Rattle.glb_core.specs.Events.{IsInRange}
-use Rattle.glb_core.specs.Lawful.{IsLawful, across}
-use Rattle.glb_core.specs.Steps.{IsEnabled, Step}
-use Rattle.glb_core.specs.Schedules.{decision, Passes, IsDecided, IsWhole}
-use Rattle.glb_core.specs.declared.event.Action.TheVariants.{Do, Poll}
+use Rattle.glb_rules.specs.Finish.{AllGone}
+use Rattle.glb_rules.specs.World.{Setup, World}
+use Rattle.glb_rules.specs.Setups.{IsProper}
+use Rattle.glb_rules.specs.Events.{IsInRange}
+use Rattle.glb_rules.specs.Lawful.{IsLawful}
+use Rattle.glb_rules.specs.Steps.{IsEnabled}
+use Rattle.glb_rules.specs.Schedules.{decision, Passes, IsDecided, IsWhole}
+use Rattle.glb_rules.specs.declared.event.Action.TheVariants.{Do, Poll}
 use Rattle.glb_core.specs.Tables.{WorldView}
-use Rattle.glb_core.specs.Standing.{StandsFor, LeadsFrom, StandsAlike, MemoryFails, expanded}
-use Rattle.glb_core.proofs.LedWorlds.{IsLed, led_step}
-use Rattle.glb_core.proofs.SightFacts.{sees}
-use Rattle.glb_core.proofs.DecidedEvents.{decided}
-use Rattle.glb_core.proofs.ScheduleFacts.{decided_step_led, some_turn}
-use Rattle.glb_core.proofs.Frames.{across_change}
-use Rattle.glb_core.specs.Sight.{state_at, sight_at}
-use Rattle.glb_core.specs.declared.part.Part.{Part}
-use Rattle.glb_core.specs.declared.kinds.Phase.TheVariants as phase
-use Rattle.glb_core.specs.declared.event.Event.{Event}
-use Rattle.glb_core.specs.declared.event.Event.TheVariants as event
-use Rattle.glb_turns.specs.Turns.{FindsPlace, TakesTurn, IsPlayed}
-
-module _ {I : Type 0} (children : I → List I) (s : Setup) (old new : World I) where
-  items_of : Part I → ℕ
-  items_of a = a.count.items
-
-  -- the items done grow by those that the event expands
-  pub step_counts : (e : Event) → (st : Step children s old e new)
-      → across s new (λ a. a.count.items) ≡ across s old (λ a. a.count.items) + expanded e st.taken
-  step_counts (event.Look q t k) st = let a = across_change s old new _ _ _ st.becomes
-      (λ a. a.count.items) st.in_range.0 in omega (arith, a)
-  step_counts (event.Batch p) st = let a = across_change s old new _ _ _ st.becomes (λ a. a.count.items)
-      st.in_range.0 in omega (arith, a)
-  step_counts (event.Ask p v k) st = let a = across_change s old new _ _ _ st.becomes
-      (λ a. a.count.items) st.in_range.0 in omega (arith, a)
-  step_counts (event.Deny q t k) st = let a = across_change s old new _ _ _ st.becomes
-      (λ a. a.count.items) st.in_range.0 in omega (arith, a)
-  step_counts (event.Mint q) st = let a = across_change s old new _ _ _ st.becomes (λ a. a.count.items)
-      st.in_range.0 in omega (arith, a)
-  step_counts (event.Give q t k) st = let a = across_change s old new _ _ _ st.becomes
-      (λ a. a.count.items) st.in_range.0 in omega (arith, a)
-  step_counts (event.Take p v k) st = let a = across_change s old new _ _ _ st.becomes
-      (λ a. a.count.items) st.in_range.0 in omega (arith, a)
-  step_counts (event.Burn p) st = let a = across_change s old new _ _ _ st.becomes (λ a. a.count.items)
-      st.in_range.0 in omega (arith, a)
-  step_counts (event.Shrug p v k) st = let a = across_change s old new _ _ _ st.becomes
-      (λ a. a.count.items) st.in_range.0 in omega (arith, a)
-  step_counts (event.Sleep p) st = let a = across_change s old new _ _ _ st.becomes (λ a. a.count.items)
-      st.in_range.0 in omega (arith, a)
-  step_counts (event.Leave p) st = let a = across_change s old new _ _ _ st.becomes (λ a. a.count.items)
-      st.in_range.0 in omega (arith, a)
-  step_counts (event.Halt p n) st = let a = across_change s old new _ _ _ st.becomes
-      (λ a. a.count.items) st.in_range.0 in omega (arith, a)
-
-  -- no event expands more than a batch
-  pub step_few : (e : Event) → (st : Step children s old e new) → expanded e st.taken ≤ s.batch
-  step_few (event.Batch p) st = st.choice.1
-  step_few (event.Look q t k) st = omega arith
-  step_few (event.Ask p v k) st = omega arith
-  step_few (event.Deny q t k) st = omega arith
-  step_few (event.Mint q) st = omega arith
-  step_few (event.Give q t k) st = omega arith
-  step_few (event.Take p v k) st = omega arith
-  step_few (event.Burn p) st = omega arith
-  step_few (event.Shrug p v k) st = omega arith
-  step_few (event.Sleep p) st = omega arith
-  step_few (event.Leave p) st = omega arith
-  step_few (event.Halt p n) st = omega arith
+use Rattle.glb_core.specs.Standing.{Represents, SimulatesFrom, Stutters, MemoryFails}
+use Rattle.glb_rules.specs.Schedules.{MintersKnowWhoAsks}
+use Rattle.glb_rules.proofs.CallerLemmas.{led_step, sees, decided, decided_step_led, some_turn}
+use Rattle.glb_rules.proofs.CallerLemmas.{step_counts, step_few}
+use Rattle.glb_core.proofs.CallerLemmas.{memory_failed}
+use Rattle.glb_rules.specs.Sight.{state_at, sight_at}
+use Rattle.glb_rules.specs.declared.kinds.Phase.TheVariants as phase
+use Rattle.glb_rules.specs.declared.event.Event.{Event}
+use Rattle.glb_rules.specs.declared.event.Event.TheVariants as event
+use Rattle.glb_turns.specs.inner.Turns.{FindsPlace, TakesTurn, IsPlayed}
 
 module _ {I : Type 0} (seed : ℕ) (s : Setup) (w : World I) (P : IsProper s) (L : IsLawful s w) (n p : ℕ)
     (e : Event)
@@ -93,19 +45,20 @@ module _ {I : Type 0} (seed : ℕ) (s : Setup) (w : World I) (P : IsProper s) (L
 
 module _ {B I V : Type 0} (items : B → List I) (children : I → List I) (value : I → V)
     (combine : V → V → V) (unit : V)
-    (s : Setup) (w : World I) (old new : WorldView B V) (S : StandsFor items s old w) (e : Event)
+    (s : Setup) (w : World I) (old new : WorldView B V) (S : Represents items s old w) (e : Event)
     (k : ℕ) where
   -- one step adds at most a batch to the items done
-  pub leads_few : LeadsFrom items children value combine unit old e k new s w
+  pub leads_few : SimulatesFrom items children value combine unit old e k new s w
       → new.total ≤ old.total + s.batch
   leads_few l =
       let a = step_counts children s w l.next e l.step in
       let b = step_few children s w l.next e l.step in
       omega (arith, a, b, S.total, l.stands.total)
 
-  module _ (D : IsLed s w) (n p : ℕ) (f : FindsPlace old.params.seed s w n p e) where
+  module _ (D : MintersKnowWhoAsks s w) (n p : ℕ) (f : FindsPlace old.params.seed s w n p e) where
     -- decisions alone led on
-    pub leads_played : LeadsFrom items children value combine unit old e k new s w → IsPlayed items new
+    pub leads_played : SimulatesFrom items children value combine unit old e k new s w
+        → IsPlayed items new
     leads_played l =
         let d = found_decided old.params.seed s w S.proper S.lawful n p e f in (
           s,
@@ -116,7 +69,7 @@ module _ {B I V : Type 0} (items : B → List I) (children : I → List I) (valu
         )
 
     -- the step is the turn
-    pub leads_turn : (l : LeadsFrom items children value combine unit old e k new s w)
+    pub leads_turn : (l : SimulatesFrom items children value combine unit old e k new s w)
         → IsWhole s e l.step.taken l.step.rest
         → TakesTurn items children value combine unit old new n s w
     leads_turn l whole = record {
@@ -155,7 +108,7 @@ round n places p l =
     ]
 
 module _ {I : Type 0} (seed : ℕ) (s : Setup) (w : World I) (P : IsProper s) (L : IsLawful s w)
-    (D : IsLed s w) (n : ℕ) where
+    (D : MintersKnowWhoAsks s w) (n : ℕ) where
   -- where no place has anything to do, every place is Gone
   pub none_found : ((j : ℕ) → j < s.places → Passes seed s w ((n + j) % s.places)) → AllGone s w
   none_found passes = ⊎_elim
@@ -170,54 +123,31 @@ module _ {I : Type 0} (seed : ℕ) (s : Setup) (w : World I) (P : IsProper s) (L
 
 module _ {B I V : Type 0} (items : B → List I) (children : I → List I) (value : I → V)
     (combine : V → V → V) (unit : V)
-    (s : Setup) (w : World I) (old new : WorldView B V) (S : StandsFor items s old w) where
+    (s : Setup) (w : World I) (old new : WorldView B V) (S : Represents items s old w) where
   -- where nothing was done, the world is still one that decisions led to
-  alike_played : IsLed s w → StandsAlike {I = I} items old new → IsPlayed items new
+  alike_played : MintersKnowWhoAsks s w → Stutters {I = I} items old new → IsPlayed items new
   alike_played D a = (s, w, a.1 s w S, D)
 
-  alike_few : StandsAlike {I = I} items old new → new.total ≤ old.total + s.batch
+  alike_few : Stutters {I = I} items old new → new.total ≤ old.total + s.batch
   alike_few a = omega (arith, S.total, (a.1 s w S).total)
 
-  -- and so where a batch was cut short
-  pub failed_played : IsLed s w → (n p : ℕ) (e : Event) → FindsPlace old.params.seed s w n p e
+  -- and so where want of memory ended the event
+  pub failed_played : MintersKnowWhoAsks s w → (n p : ℕ) (e : Event)
+      → FindsPlace old.params.seed s w n p e
       → MemoryFails items children value combine unit old e new → IsPlayed items new
-  failed_played D n p (event.Batch q) f m = ⊎_elim
-      (λ part. leads_played items children value combine unit s w old new S (event.Batch q) part.0 D n p
-      f (part.1 s w S))
-      (λ a. alike_played D a) m
-  failed_played D n p (event.Give q t k) f m = alike_played D m
-  failed_played D n p (event.Take q v k) f m = alike_played D m
-  failed_played D n p (event.Look q t k) f m = absurd m
-  failed_played D n p (event.Ask q v k) f m = absurd m
-  failed_played D n p (event.Deny q t k) f m = absurd m
-  failed_played D n p (event.Mint q) f m = absurd m
-  failed_played D n p (event.Burn q) f m = absurd m
-  failed_played D n p (event.Shrug q v k) f m = absurd m
-  failed_played D n p (event.Sleep q) f m = absurd m
-  failed_played D n p (event.Leave q) f m = absurd m
-  failed_played D n p (event.Halt q c) f m = absurd m
+  failed_played D n p e f m = ⊎_elim
+      (λ part. leads_played items children value combine unit s w old new S e part.0 D n p f (part.1 s w S))
+      (λ a. alike_played D a) (memory_failed items children value combine unit old new e m)
 
   pub failed_few : (e : Event) → MemoryFails items children value combine unit old e new
       → new.total ≤ old.total + s.batch
-  failed_few (event.Batch q) m = ⊎_elim
-      (λ part. leads_few items children value combine unit s w old new S (event.Batch q) part.0
-      (part.1 s w S))
-      (λ a. alike_few a) m
-  failed_few (event.Give q t k) m = alike_few m
-  failed_few (event.Take q v k) m = alike_few m
-  failed_few (event.Look q t k) m = absurd m
-  failed_few (event.Ask q v k) m = absurd m
-  failed_few (event.Deny q t k) m = absurd m
-  failed_few (event.Mint q) m = absurd m
-  failed_few (event.Burn q) m = absurd m
-  failed_few (event.Shrug q v k) m = absurd m
-  failed_few (event.Sleep q) m = absurd m
-  failed_few (event.Leave q) m = absurd m
-  failed_few (event.Halt q c) m = absurd m
+  failed_few e m = ⊎_elim
+      (λ part. leads_few items children value combine unit s w old new S e part.0 (part.1 s w S))
+      (λ a. alike_few a) (memory_failed items children value combine unit old new e m)
 
   -- a Halt leads on too
-  pub halted_played : IsLed s w → (p code k : ℕ)
-      → LeadsFrom items children value combine unit old (event.Halt p code) k new s w
+  pub halted_played : MintersKnowWhoAsks s w → (p code k : ℕ)
+      → SimulatesFrom items children value combine unit old (event.Halt p code) k new s w
       → IsPlayed items new
   halted_played D p code k l =
       (s, l.next, l.stands, led_step children s w l.next (event.Halt p code) S.lawful tt D l.step)

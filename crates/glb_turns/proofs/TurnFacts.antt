@@ -1,12 +1,13 @@
 -- What one turn rests on, and how turns join.
-use Rattle.std.proofs.Common.{◌≡◌, ◌≢◌, ℕ, suc, ◌+◌, ◌*◌, ◌/◌, ◌%◌, ◌<◌, List, [], ◌∷◌, ◌++◌, length, refl, sym, ap, subst, ◌∙◌, ⊎_elim, arith}
-use Rattle.glb_core.specs.World.{Setup, World}
-use Rattle.glb_core.specs.Schedules.{Passes, ScheduledTurn, ScheduledRun}
-use Rattle.glb_turns.specs.Turns.{DecidesAt, FindsPlace}
+use Rattle.std.proofs.Common.{◌≡◌, ◌≢◌, ℕ, suc, ◌+◌, ◌*◌, ◌/◌, ◌%◌, ◌<◌, List, [], ◌∷◌, ◌++◌}
+use Rattle.std.proofs.Common.{length, refl, sym, ap, subst, ◌∙◌, ⊎_elim, arith}
+use Rattle.glb_rules.specs.World.{Setup, World}
+use Rattle.glb_rules.specs.Schedules.{Passes, ScheduledTurn, ScheduledRun}
+use Rattle.glb_turns.specs.inner.Turns.{DecidesAt, FindsPlace}
 use Rattle.std.specs.Prelude.{Some}
 use Rattle.std.proofs.lemmas.Bool.{cases_eq}
 use Rattle.std.proofs.lemmas.Nat.{mod_below, mod-mul-add, div-add-mod'}
-use Rattle.glb_core.specs.declared.event.Event.{Event}
+use Rattle.glb_rules.specs.declared.event.Event.{Event}
 
 module _ {I : Type 0} (children : I → List I) (s : Setup) (seed : ℕ) where
   -- one more turn
@@ -36,7 +37,8 @@ module _ {I : Type 0} (seed : ℕ) (s : Setup) (w : World I) (n ahead q places :
   place_is = subst (λ m. q ≡ (n + ahead) % m) (sym same) here
 
   -- one more place passes
-  pub passed_more : Passes seed s w q → (j : ℕ) → j < ahead + 1 → Passes seed s w ((n + j) % s.places)
+  pub passed_more : Passes seed s w q → (j : ℕ) → j < ahead + 1
+      → Passes seed s w ((n + j) % s.places)
   passed_more passes j l =
       ⊎_elim
       (λ (last : j ≡ ahead). subst (λ k. Passes seed s w ((n + k) % s.places)) (sym last)

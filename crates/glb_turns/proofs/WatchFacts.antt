@@ -1,223 +1,37 @@
 -- What is known of a place stays known where an event changes nothing that the place sees.
 use Rattle.std.specs.Prelude.{min, ◌==◌}
-use Rattle.std.proofs.Common.{◌≡◌, ◌≢◌, ◌++◌, ℕ, ◌-◌, ◌^◌, ◌<◌, ◌⊎◌, List, [], ◌∷◌, cond, length, map, get_or, set, refl, sym, ap, ◌∙◌, subst, inl, inr, ⊎_elim, arith}
+use Rattle.std.proofs.Common.{◌≡◌, ◌≢◌, ◌++◌, ℕ, ◌-◌, ◌^◌, ◌<◌, ◌⊎◌, List, [], ◌∷◌, cond, length}
+use Rattle.std.proofs.Common.{map, get_or, set, refl, sym, ap, ◌∙◌, subst, inl, inr, ⊎_elim, arith}
 use Rattle.std.proofs.Math.Seq.{map-set_same}
 use Rattle.std.proofs.lemmas.Bool.{cases_eq}
 use Rattle.std.proofs.lemmas.List.{get_or-set_same, get_or-set_other, length-set}
 use Rattle.glb_cube.specs.Lines.{Cube}
-use Rattle.glb_core.specs.World.{Setup, World, has_edge, mark_at, state_of}
-use Rattle.glb_core.specs.Draws.{drawn}
-use Rattle.glb_core.specs.Events.{actor, edge_of, name_of}
-use Rattle.glb_core.specs.Effects.{looked}
-use Rattle.glb_core.specs.Steps.{Step}
-use Rattle.glb_core.specs.Decision.{decide}
-use Rattle.glb_core.specs.Sight.{Sight, IsMadeFor, sight, sight_at, state_at, first_sight, in_edge, in_edges, out_edge, edge_waited}
-use Rattle.glb_core.specs.Tables.{WorldView, ShowsPart}
-use Rattle.glb_core.specs.Standing.{StandsFor}
-use Rattle.glb_core.specs.TableEffects.{NamesBelow}
-use Rattle.glb_core.specs.declared.kinds.Kind.{Kind}
-use Rattle.glb_core.specs.declared.kinds.Kind.TheVariants as kind
-use Rattle.glb_core.specs.declared.kinds.Phase.{Phase}
-use Rattle.glb_core.specs.declared.kinds.Phase.TheVariants as phase
-use Rattle.glb_core.specs.declared.params.Params.{Params}
-use Rattle.glb_core.specs.declared.part.Part.{Part}
-use Rattle.glb_core.specs.declared.part.EdgeName.{EdgeName}
-use Rattle.glb_core.specs.declared.seen.InEdge.{InEdge}
-use Rattle.glb_core.specs.declared.seen.OutEdge.{OutEdge}
-use Rattle.glb_core.specs.declared.place_state.PlaceState.{PlaceState}
-use Rattle.glb_core.specs.declared.event.Event.{Event}
-use Rattle.glb_core.specs.declared.event.Event.TheVariants as event
-use Rattle.glb_core.specs.declared.world.seat.Seat.{Seat}
-use Rattle.glb_core.proofs.Frames.{name_cases}
-use Rattle.glb_core.proofs.JoinFacts.{join_same}
-use Rattle.glb_core.proofs.SeatFacts.{size_of}
-use Rattle.glb_core.proofs.SeenFacts.{first_made}
-use Rattle.glb_core.proofs.TableSightFacts.{ins_told, outs_told, waited_told}
-use Rattle.glb_core.proofs.ViewFacts.{places_are}
+use Rattle.glb_rules.specs.World.{Setup, World}
+use Rattle.glb_rules.specs.Events.{actor, name_of}
+use Rattle.glb_rules.specs.Effects.{mark_after_look}
+use Rattle.glb_rules.specs.Decision.{decide}
+use Rattle.glb_rules.specs.Sight.{Sight, sight_at, state_at}
+use Rattle.glb_core.specs.Seen.{IsMadeFor, sight}
+use Rattle.glb_core.specs.Tables.{WorldView}
+use Rattle.glb_core.specs.Standing.{Represents}
+use Rattle.glb_rules.specs.declared.kinds.Kind.{Kind}
+use Rattle.glb_rules.specs.declared.params.Params.{Params}
+use Rattle.glb_rules.specs.declared.local.EdgeName.{EdgeName}
+use Rattle.glb_rules.specs.declared.edges.InEdge.{InEdge}
+use Rattle.glb_rules.specs.declared.edges.OutEdge.{OutEdge}
+use Rattle.glb_rules.specs.declared.place_state.PlaceState.{PlaceState}
+use Rattle.glb_rules.specs.declared.event.Event.{Event}
+use Rattle.glb_rules.specs.declared.event.Event.TheVariants as event
+use Rattle.glb_core.proofs.CallerLemmas.{sights_agree, states_agree}
+use Rattle.glb_rules.proofs.CallerLemmas.{state_stays, sight_stays}
 use Rattle.glb_turns.proofs.LookFacts.{look_sight, look_state, looks_on}
-use Rattle.glb_turns.specs.Watches.{LooksAt, LooksBy, LooksOn, LookedOn, NotesLook, Knows, IsWatchOf, HasWatches, AreStale, Follows, forgotten, looked_at, other_end}
+use Rattle.glb_rules.specs.Events.{other_end}
+use Rattle.glb_turns.specs.inner.Watches.{LooksAt, LooksBy, LooksOn, LookedOn, NotesLook, Knows}
+use Rattle.glb_turns.specs.inner.Watches.{IsWatchOf, HasWatches, AreStale, Follows, forgotten}
+use Rattle.glb_turns.specs.inner.Watches.{looked_at}
 use Rattle.glb_turns.specs.declared.watch.Knowledge.{Knowledge}
 use Rattle.glb_turns.specs.declared.watch.Knowledge.TheVariants as knowledge
 use Rattle.glb_turns.specs.declared.watch.Watch.{Watch}
-
--- a member of a list that has one
-member_of : {A : Type 0} (xs : List A) (n : ℕ) → n < length xs → A
-member_of [] n l = absurd (omega arith)
-member_of (x ∷ xs) n l = x
-
-map_same : {A C : Type 0} (f g : A → C) → ((x : A) → g x ≡ f x) → (xs : List A) → map g xs ≡ map f xs
-map_same f g h [] = refl
-map_same f g h (x ∷ xs) = ap (λ y. y ∷ map g xs) (h x) ∙ ap (λ ys. f x ∷ ys) (map_same f g h xs)
-
--- what tables tell of a place, in each world for which they stand
-module _ {B I V : Type 0} (items : B → List I) (s : Setup) (x : WorldView B V) (w : World I)
-    (S : StandsFor items s x w) (p : ℕ) (below : p < x.cube.places) (r : Seat B)
-    (R : ShowsPart items x.params.seed x.cube.places p r (w.place p)) where
-  victim_told : r.victim ≡ drawn x.params.seed s.places p (w.place p).count.asks
-  victim_told = R.victim
-      ∙ ap (λ n. drawn x.params.seed n p (w.place p).count.asks) (sym (places_are items s x w S.shows))
-
-  size_told : min (length (items r.bag)) (2 ^ 64 - 1) ≡ min (length (w.place p).bag) (2 ^ 64 - 1)
-  size_told = ap (λ n. min n (2 ^ 64 - 1)) (size_of R)
-
--- two worlds for which the same tables stand are the same for a place
-module _ {B I V : Type 0} (items : B → List I) (x : WorldView B V) (s t : Setup) (w v : World I)
-    (S : StandsFor items s x w) (T : StandsFor items t x v) (p : ℕ) (below : p < x.cube.places) where
-  abbrev first_seat : Seat B
-  first_seat = member_of x.seats p (let a = S.shows.seats in omega arith)
-
-  abbrev seat : Seat B
-  seat = get_or x.seats p first_seat
-
-  shown : ShowsPart items x.params.seed x.cube.places p seat (w.place p)
-  shown = S.shows.seat p first_seat below
-
-  shown_too : ShowsPart items x.params.seed x.cube.places p seat (v.place p)
-  shown_too = T.shows.seat p first_seat below
-
-  pub sights_agree : sight_at t v p ≡ sight_at s w p
-  sights_agree =
-      let z = first_sight x.cube p in
-      let made = first_made x.cube p in
-      let ins =
-      sym (ins_told items t x v T p below seat shown_too z.ins made.ins)
-      ∙ ins_told items s x w S p below seat shown z.ins made.ins
-      in
-      let outs =
-      sym (outs_told items t x v T p below seat shown_too z.outs made.outs)
-      ∙ outs_told items s x w S p below seat shown z.outs made.outs
-      in
-      let waited =
-      sym (waited_told items t x v T p below seat shown_too) ∙ waited_told items s x w S p below seat shown
-      in
-      let live = sym T.shows.live ∙ S.shows.live in
-      let stop = sym T.shows.stop ∙ S.shows.stop in
-      λ i. record { ins = ins i; outs = outs i; waited = waited i; ended = live i == 0; stop = stop i }
-
-  pub states_agree : state_at x.params.seed t v p ≡ state_at x.params.seed s w p
-  states_agree =
-      let phase = sym shown_too.same_phase ∙ shown.same_phase in
-      let credit = sym shown_too.same_credit ∙ shown.same_credit in
-      let tries = sym shown_too.tries ∙ shown.tries in
-      let victim =
-      sym (victim_told items t x v T p below seat shown_too) ∙ victim_told items s x w S p below seat shown
-      in
-      let size =
-      sym (size_told items t x v T p below seat shown_too) ∙ size_told items s x w S p below seat shown
-      in
-      λ i. record {
-        place = p;
-        phase = phase i;
-        credit = credit i;
-        tries = tries i;
-        victim = victim i;
-        size = size i;
-      }
-
--- the place at the other end is there
-pub other_below : (n : ℕ) (e : Event) → NamesBelow n e → other_end e < n
-other_below n (event.Look q t k) b = b.0
-other_below n (event.Batch q) b = b.0
-other_below n (event.Ask q v k) b = b.2
-other_below n (event.Deny q t k) b = b.1
-other_below n (event.Mint q) b = b.0
-other_below n (event.Give q t k) b = b.1
-other_below n (event.Take q v k) b = b.2
-other_below n (event.Burn q) b = b.0
-other_below n (event.Shrug q v k) b = b.2
-other_below n (event.Sleep q) b = b.0
-other_below n (event.Leave q) b = b.0
-other_below n (event.Halt q c) b = b.0
-
--- an event leaves the edge that it names as it was for a place at neither of its ends
-named_stays : {I : Type 0} (children : I → List I) (s : Setup) (old new : World I) (p : ℕ) (e : Event)
-    → Step children s old e new → p ≢ actor e → p ≢ other_end e
-    → ((edge_of e).thief ≡ p) ⊎ ((edge_of e).victim ≡ p)
-    → new.edge (edge_of e).kind (edge_of e).thief (edge_of e).victim
-    ≡ old.edge (edge_of e).kind (edge_of e).thief (edge_of e).victim
-named_stays children s old new p (event.Look q t k) st a b h = st.becomes.edge
-named_stays children s old new p (event.Batch q) st a b h = st.becomes.edge
-named_stays children s old new p (event.Ask q v k) st a b h = absurd
-    (⊎_elim (λ e. a (sym e)) (λ e. b (sym e)) h)
-named_stays children s old new p (event.Deny q t k) st a b h = absurd
-    (⊎_elim (λ e. b (sym e)) (λ e. a (sym e)) h)
-named_stays children s old new p (event.Mint q) st a b h = st.becomes.edge
-named_stays children s old new p (event.Give q t k) st a b h = absurd
-    (⊎_elim (λ e. b (sym e)) (λ e. a (sym e)) h)
-named_stays children s old new p (event.Take q v k) st a b h = absurd
-    (⊎_elim (λ e. a (sym e)) (λ e. b (sym e)) h)
-named_stays children s old new p (event.Burn q) st a b h = st.becomes.edge
-named_stays children s old new p (event.Shrug q v k) st a b h = absurd
-    (⊎_elim (λ e. a (sym e)) (λ e. b (sym e)) h)
-named_stays children s old new p (event.Sleep q) st a b h = st.becomes.edge
-named_stays children s old new p (event.Leave q) st a b h = st.becomes.edge
-named_stays children s old new p (event.Halt q c) st a b h = st.becomes.edge
-
-module _ {I : Type 0} (children : I → List I) (s : Setup) (old new : World I) (e : Event)
-    (st : Step children s old e new) (p : ℕ) (away : p ≢ actor e) (apart : p ≢ other_end e) where
-  place_stays : new.place p ≡ old.place p
-  place_stays = st.becomes.other_places p away
-
-  pub state_stays : (seed : ℕ) → state_at seed s new p ≡ state_at seed s old p
-  state_stays seed =
-      let a = place_stays in
-      λ i. record {
-        place = p;
-        phase = (a i).phase;
-        credit = (a i).credit;
-        tries = (a i).tries;
-        victim = drawn seed s.places p (a i).count.asks;
-        size = min (length (a i).bag) (2 ^ 64 - 1);
-      }
-
-  edge_stays : (k : Kind) (t v : ℕ) → (t ≡ p) ⊎ (v ≡ p) → new.edge k t v ≡ old.edge k t v
-  edge_stays k t v h = ⊎_elim
-      (λ same.
-      let at_end : ((edge_of e).thief ≡ p) ⊎ ((edge_of e).victim ≡ p) =
-      ⊎_elim (λ z. inl (sym same.1 ∙ z)) (λ z. inr (sym same.2 ∙ z)) h
-      in
-      rw (same.0, same.1, same.2) (named_stays children s old new p e st away apart at_end))
-      (λ else. st.becomes.other_edges k t v else)
-      (name_cases (edge_of e) k t v)
-
-  in_edge_stays : (k : Kind) (t : ℕ) → in_edge new p k t ≡ in_edge old p k t
-  in_edge_stays k t =
-      let a = place_stays in
-      let b = edge_stays k t p (inr refl) in
-      λ i. record { thief = t; kind = k; mark = mark_at (a i).marks k t; edge = state_of (b i) }
-
-  in_edges_stay : (k : Kind) → in_edges s new p k ≡ in_edges s old p k
-  in_edges_stay k = join_same s.places (λ t. cond (has_edge s k t p) (in_edge old p k t ∷ []) [])
-      (λ t. cond (has_edge s k t p) (in_edge new p k t ∷ []) [])
-      (λ t l. ap (λ y. cond (has_edge s k t p) (y ∷ []) []) (in_edge_stays k t))
-
-  out_edge_stays : (v : ℕ) → out_edge new p v ≡ out_edge old p v
-  out_edge_stays v =
-      let b = edge_stays kind.Line p v (inl refl) in λ i. record { victim = v; edge = state_of (b i) }
-
-  waited_stays : (y : Phase) → edge_waited new p y ≡ edge_waited old p y
-  waited_stays phase.Working = refl
-  waited_stays phase.Idle = refl
-  waited_stays (phase.Waiting v k) = ap state_of (edge_stays k p v (inl refl))
-  waited_stays phase.Asleep = refl
-  waited_stays phase.Gone = refl
-
-  pub sight_stays : (new.live == 0) ≡ (old.live == 0) → new.stop ≡ old.stop
-      → sight_at s new p ≡ sight_at s old p
-  sight_stays ended stop =
-      let steals = in_edges_stay kind.Steal in
-      let lines = in_edges_stay kind.Line in
-      let outs = map_same (out_edge old p) (out_edge new p) out_edge_stays (s.outs p) in
-      let waited =
-      ap (λ (a : Part I). edge_waited new p a.phase) place_stays ∙ waited_stays (old.place p).phase
-      in
-      λ i. record {
-        ins = steals i ++ lines i;
-        outs = outs i;
-        waited = waited i;
-        ended = ended i;
-        stop = stop i;
-      }
 
 -- where two worlds are the same for a place, the same is known of it
 knows_moved : {I : Type 0} (seed : ℕ) (s t : Setup) (w v : World I) (p : ℕ) (z : Sight) (k : Knowledge)
@@ -250,7 +64,8 @@ module _ {B I V : Type 0} (items : B → List I) (x : WorldView B V) where
       → IsWatchOf items x p (forgotten z)
   stale_watch p z made = record { made = made; known = λ s w S. tt }
 
-  pub watches_start : (c : Cube) (ws : List Watch) → c ≡ x.cube → AreStale c ws → HasWatches items x ws
+  pub watches_start : (c : Cube) (ws : List Watch) → c ≡ x.cube → AreStale c ws
+      → HasWatches items x ws
   watches_start c ws same stale p d l = record {
     made = subst (λ b. IsMadeFor b p (sight (get_or ws p d).seen)) same (stale p d l).0;
     known = λ s w S. subst (λ k. Knows x.params.seed s w p (sight (get_or ws p d).seen) k)
@@ -309,7 +124,8 @@ module _ {B I V : Type 0} (items : B → List I) (children : I → List I) (old 
       → HasWatches items old ws → HasWatches items new us
   watches_noticed ws mid us a b many is_actor is_other l m first second all p d n =
       let Q : ℕ → Type 0 = λ q. q ≢ other_end e in
-      let made : (q : ℕ) (y : Watch) → q < length ws → IsMadeFor new.cube q (sight (get_or ws q y).seen) =
+      let made : (q : ℕ) (y : Watch) → q < length ws
+      → IsMadeFor new.cube q (sight (get_or ws q y).seen) =
       λ q y k. subst (λ c. IsMadeFor c q (sight (get_or ws q y).seen)) (sym f.cube) (all q y k).made
       in
       let one : (q : ℕ) (y : Watch) → q < length mid → Holds Q q (get_or mid q y) =
@@ -350,7 +166,7 @@ module _ {B I V : Type 0} (items : B → List I) (children : I → List I) (old 
         record {
           ins = ap (λ (v : Sight). map (name_in q) v.ins) n.sees
               ∙ map-set_same (name_in q) z.seen.ins.items n.at
-              (record (n.edge) { mark = looked n.edge.edge }) n.edge (ap (name_in q) n.found)
+              (record (n.edge) { mark = mark_after_look n.edge.edge }) n.edge (ap (name_in q) n.found)
               ∙ made.ins;
           outs = ap (λ (v : Sight). map (λ (o : OutEdge). o.victim) v.outs) n.sees ∙ made.outs;
         }
@@ -364,7 +180,7 @@ module _ {B I V : Type 0} (items : B → List I) (children : I → List I) (old 
         ∙ sym (look_sight children f.setup f.before f.next q t k f.step n.at n.edge within found
         n.thief n.kind)
 
-    looked_knows : (u : Setup) (v : World I) → StandsFor items u new v → (j : Knowledge)
+    looked_knows : (u : Setup) (v : World I) → Represents items u new v → (j : Knowledge)
         → LooksOn y.seen.ins.items n.at j → Knows new.params.seed u v q (sight y.seen) j
     looked_knows u v T knowledge.Stale on = tt
     looked_knows u v T knowledge.Fresh on =
@@ -398,7 +214,8 @@ module _ {B I V : Type 0} (items : B → List I) (children : I → List I) (old 
 
   -- the place that looked sees what it found, or is forgotten, and all is known still of the others
   pub watches_looked : (ws : List Watch) (y : Watch) → length ws ≡ new.cube.places
-      → NotesLook t k (get_or ws q y) y → HasWatches items old ws → HasWatches items new (set ws q y)
+      → NotesLook t k (get_or ws q y) y → HasWatches items old ws
+      → HasWatches items new (set ws q y)
   watches_looked ws y many notes all = watch_set (IsWatchOf items new) ws q y
       (λ p d l other. watch_kept items children old new (event.Look q t k) f ended stop p (get_or ws p d)
       (omega (arith, many)) other other (all p d l))
@@ -413,7 +230,8 @@ module _ {B I V : Type 0} (items : B → List I) (children : I → List I) (old 
 
 -- what is known of a place by its state and by all that it can see
 pub known_by : {I : Type 0} (seed : ℕ) (s : Setup) (w : World I) (p : ℕ) (a : PlaceState) (z : Sight)
-    (k : Knowledge) → a ≡ state_at seed s w p → z ≡ sight_at s w p → LooksBy a z k → Knows seed s w p z k
+    (k : Knowledge) → a ≡ state_at seed s w p → z ≡ sight_at s w p → LooksBy a z k
+    → Knows seed s w p z k
 known_by seed s w p a z knowledge.Stale is sees h = tt
 known_by seed s w p a z knowledge.Fresh is sees h = sees
 known_by seed s w p a z (knowledge.Looks at) is sees h = (sees, subst (λ b. LooksAt b z at) is h)

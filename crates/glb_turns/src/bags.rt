@@ -1,28 +1,10 @@
 //! The bags with which the places start.
-ghost use Rattle.std.specs.Prelude.{◌≡◌, ◌<◌, ℕ, [], map, get_or, vec_len, All, IfOk, IsPermutation};
+ghost use Rattle.std.specs.Prelude.{◌≡◌, ◌<◌, ℕ, [], map, get_or, vec_len, All, IfOk};
+ghost use Rattle.std.specs.Prelude.{IsPermutation};
 
 use glb_laws::{Bag, NoMemory, Program};
+use glb_tree::bag_of;
 use std::alloc::Global;
-
-/// A bag with these items.
-pub(crate) fn bag_of<P: Program, B: Bag<P>>(
-    alloc: Global,
-    program: &P,
-    roots: Vec<P::Item>,
-) -> Result<B, NoMemory>
-    ensures items { IfOk result (λ bag. IsPermutation roots.items (B.items bag)) }
-    ensures fits { IfOk result (λ bag. B.fits bag program.now) }
-{
-    let mut bag = B::empty(alloc, program);
-    let mut left = roots;
-    while let Some(root) = left.pop() {
-        match bag.add(root) {
-            Ok(()) => {}
-            Err(_) => return Err(NoMemory),
-        }
-    }
-    Ok(bag)
-}
 
 /// A bag for each list, in order.
 pub(crate) fn bags_of<P: Program, B: Bag<P>>(

@@ -1,15 +1,18 @@
 //! Plays a world of places by the numbers of a schedule.
-ghost use Rattle.std.specs.Prelude.{◌≡◌, ◌≢◌, ℕ, ◌+◌, ◌%◌, ◌^◌, ◌<◌, ◌≤◌, [], length, List, map, get_or, vec_len, OnOk, IfOk, IfErr, MatchOption};
-ghost use Rattle.glb_core.specs.World.{Setup, World as Whole};
-ghost use Rattle.glb_core.specs.Schedules.{decision, Passes};
-ghost use Rattle.glb_core.specs.Standing.{StandsFor, LeadsWholly, Fails};
-ghost use Rattle.glb_core.specs.TableEffects.{NamesBelow};
-ghost use Rattle.glb_core.specs.ItemEffects.{AllFit, KeepAllFit};
-ghost use Rattle.glb_turns.specs.Turns.{IsPlayed, FindsPlace, TurnsTo, IsTurnOf, Begins, PlaysToEnd};
-ghost use Rattle.glb_turns.specs.Watches.{HasWatches};
-ghost use Rattle.glb_core.specs.Sums.{join_to};
-ghost use Rattle.glb_tree.specs.Runs.{HasCause};
-ghost use Rattle.glb_core.specs.Setups.{IsWithinLimits};
+ghost use Rattle.std.specs.Prelude.{◌≡◌, ◌≢◌, ℕ, ◌+◌, ◌%◌, ◌^◌, ◌<◌, ◌≤◌, ◌⊎◌, [], length, List};
+ghost use Rattle.std.specs.Prelude.{map, get_or, vec_len, OnOk, IfOk, IfErr, MatchOption};
+ghost use Rattle.glb_rules.specs.World.{Setup, World as AbstractWorld};
+ghost use Rattle.glb_rules.specs.Schedules.{Passes};
+ghost use Rattle.glb_core.specs.Standing.{Represents, SimulatesWholly, Fails};
+ghost use Rattle.glb_rules.specs.Events.{NamesBelow};
+ghost use Rattle.glb_core.specs.Standing.{AllFit};
+ghost use Rattle.glb_turns.specs.inner.Turns.{IsPlayed, IsInPlay, IsSameRun, FindsPlace, TurnsTo};
+ghost use Rattle.glb_turns.specs.inner.Turns.{IsTurnOf, Begins, PlaysToEnd, IsOver, Halted};
+ghost use Rattle.glb_turns.specs.inner.Turns.{code_of};
+ghost use Rattle.glb_turns.specs.inner.Watches.{HasWatches};
+ghost use Rattle.glb_rules.specs.Joins.{join_to};
+ghost use Rattle.glb_tree.specs.Runs.{HasCause, PassesByAtMost};
+ghost use Rattle.glb_rules.specs.Setups.{IsWithinLimits};
 ghost use Rattle.glb_turns.specs.ScheduledRuns.{IsTurnsReport};
 
 use super::bags::bags_of;
@@ -39,15 +42,14 @@ fn place_from(first: u32, ahead: u32, places: u32) -> u32
 /// The first place from the number upwards and round that has something to do, and what it does.
 fn find_decision<P: Program, B: Bag<P>>(
     world: &World<P, B>,
-    watches: &mut Vec<Watch>,
+    watches: &mut [Watch],
     number: u32,
 ) -> Option<(u32, Event)>
-    requires many { length watches.old.items ≡ world.now.cube.places }
-    requires watches { HasWatches {I = P.Item} B.items world.now watches.old.items }
+    requires many { length watches.old ≡ world.now.cube.places }
+    requires watches { HasWatches {I = P.Item} B.items world.now watches.old }
     requires played { IsPlayed {I = P.Item} B.items world.now }
-    ensures many { length watches.new.items ≡ world.now.cube.places }
-    ensures watches { HasWatches {I = P.Item} B.items world.now watches.new.items }
-    ensures finds { (s : Setup) (w : Whole P.Item) → StandsFor B.items s world.now w →
+    ensures watches { HasWatches {I = P.Item} B.items world.now watches.new }
+    ensures finds { (s : Setup) (w : AbstractWorld P.Item) → Represents B.items s world.now w →
         MatchOption result
         ((j : ℕ) → j < s.places → Passes world.now.params.seed s w ((number + j) % s.places))
         (λ found. FindsPlace world.now.params.seed s w number found.0 found.1) }
@@ -76,26 +78,21 @@ enum Turned {
 fn step<P: Program, B: Bag<P>>(
     world: &mut World<P, B>,
     program: &P,
-    watches: &mut Vec<Watch>,
+    watches: &mut [Watch],
     event: Event,
 ) -> Result<u64, StepFault>
-    requires many { length watches.old.items ≡ world.old.cube.places }
-    requires watches { HasWatches {I = P.Item} B.items world.old watches.old.items }
-    requires played { IsPlayed {I = P.Item} B.items world.old }
+    requires in_play { IsInPlay B.items B.fits program.now world.old watches.old }
     requires named { NamesBelow world.old.cube.places event }
-    requires fits { AllFit B.fits world.old program.now }
     requires total { world.old.total ≤ 2 ^ 41 }
-    ensures many { length watches.new.items ≡ world.new.cube.places }
-    ensures watches { HasWatches {I = P.Item} B.items world.new watches.new.items }
+    ensures watches { HasWatches {I = P.Item} B.items world.new watches.new }
     ensures step { IfOk result
-        (λ k. LeadsWholly B.items (P.children program.now) (P.value program.now) P.Value.combine
+        (λ k. SimulatesWholly B.items (P.children program.now) (P.value program.now) P.Value.combine
         P.Value.unit world.old event k world.new) }
     ensures fault { IfErr result
         (λ f. Fails B.items (P.children program.now) (P.value program.now) P.Value.combine
         P.Value.unit world.old event world.new f) }
-    ensures fits { KeepAllFit B.fits world.old world.new }
-    ensures graph { world.new.cube ≡ world.old.cube }
-    ensures params { world.new.params ≡ world.old.params }
+    ensures fits { AllFit B.fits world.new program.now }
+    ensures same { IsSameRun world.old world.new }
 {
     let ended = world.live() == 0;
     let stop = world.stop();
@@ -115,20 +112,13 @@ fn step<P: Program, B: Bag<P>>(
 fn turn<P: Program, B: Bag<P>>(
     world: &mut World<P, B>,
     program: &P,
-    watches: &mut Vec<Watch>,
+    watches: &mut [Watch],
     number: u32,
 ) -> Turned
-    requires many { length watches.old.items ≡ world.old.cube.places }
-    requires watches { HasWatches {I = P.Item} B.items world.old watches.old.items }
-    requires played { IsPlayed {I = P.Item} B.items world.old }
-    requires fits { AllFit B.fits world.old program.now }
+    requires in_play { IsInPlay B.items B.fits program.now world.old watches.old }
     requires total { world.old.total ≤ 2 ^ 41 }
-    ensures many { length watches.new.items ≡ world.new.cube.places }
-    ensures watches { HasWatches {I = P.Item} B.items world.new watches.new.items }
-    ensures played { IsPlayed {I = P.Item} B.items world.new }
-    ensures fits { AllFit B.fits world.new program.now }
-    ensures cube { world.new.cube ≡ world.old.cube }
-    ensures params { world.new.params ≡ world.old.params }
+    ensures in_play { IsInPlay B.items B.fits program.now world.new watches.new }
+    ensures same { IsSameRun world.old world.new }
     ensures most { world.new.total ≤ world.old.total + world.old.params.batch }
     ensures few { world.old.params.batch ≤ 65536 }
     ensures place { IsTurnOf world.old.cube.places result }
@@ -150,21 +140,18 @@ fn turn<P: Program, B: Bag<P>>(
 fn begin_halt<P: Program, B: Bag<P>>(
     world: &mut World<P, B>,
     program: &P,
-    watches: &mut Vec<Watch>,
+    watches: &mut [Watch],
     place: u32,
     code: u64,
 )
-    requires many { length watches.old.items ≡ world.old.cube.places }
-    requires watches { HasWatches {I = P.Item} B.items world.old watches.old.items }
-    requires played { IsPlayed {I = P.Item} B.items world.old }
-    requires fits { AllFit B.fits world.old program.now }
+    requires in_play { IsInPlay B.items B.fits program.now world.old watches.old }
     requires total { world.old.total ≤ 2 ^ 41 }
     requires place { place < world.old.cube.places }
-    ensures many { length watches.new.items ≡ world.new.cube.places }
-    ensures watches { HasWatches {I = P.Item} B.items world.new watches.new.items }
-    ensures played { IsPlayed {I = P.Item} B.items world.new }
-    ensures fits { AllFit B.fits world.new program.now }
-    ensures cube { world.new.cube ≡ world.old.cube }
+    requires code { (code ≡ 1) ⊎ (code ≡ 2) }
+    requires running { world.old.stop ≡ 0 }
+    ensures in_play { IsInPlay B.items B.fits program.now world.new watches.new }
+    ensures same { IsSameRun world.old world.new }
+    ensures over { IsOver code world.new }
     ensures most { world.new.total ≤ world.old.total + 65536 }
 {
     match step(world, program, watches, Event::Halt { place, code }) {
@@ -178,24 +165,25 @@ fn begin_halt<P: Program, B: Bag<P>>(
 fn halt<P: Program, B: Bag<P>, S: Schedule>(
     world: &mut World<P, B>,
     program: &P,
-    watches: &mut Vec<Watch>,
+    watches: &mut [Watch],
     schedule: &mut S,
     place: u32,
     code: u64,
 )
-    requires many { length watches.old.items ≡ world.old.cube.places }
-    requires watches { HasWatches {I = P.Item} B.items world.old watches.old.items }
-    requires played { IsPlayed {I = P.Item} B.items world.old }
-    requires fits { AllFit B.fits world.old program.now }
+    requires in_play { IsInPlay B.items B.fits program.now world.old watches.old }
     requires total { world.old.total ≤ 2 ^ 40 + 65536 }
     requires place { place < world.old.cube.places }
+    requires code { (code ≡ 1) ⊎ (code ≡ 2) }
+    requires running { world.old.stop ≡ 0 }
+    ensures halted { Halted {I = P.Item} B.items code world.new }
 {
     begin_halt(world, program, watches, place, code);
     let places = world.lines().places();
     for _ in 0..places {
         match turn(world, program, watches, schedule.turn()) {
             Turned::AllGone => return,
-            Turned::Went { .. } | Turned::NoMemory { .. } => {}
+            Turned::Went { .. } => {}
+            Turned::NoMemory { .. } => unreachable!(),
         }
     }
 }
@@ -204,12 +192,12 @@ fn halt<P: Program, B: Bag<P>, S: Schedule>(
 fn play<P: Program, B: Bag<P>, S: Schedule>(
     world: &mut World<P, B>,
     program: &P,
-    watches: &mut Vec<Watch>,
+    watches: &mut [Watch],
     schedule: &mut S,
     limit: u64,
 ) -> Result<(), RunFault>
-    requires many { length watches.old.items ≡ world.old.cube.places }
-    requires watches { HasWatches {I = P.Item} B.items world.old watches.old.items }
+    requires many { length watches.old ≡ world.old.cube.places }
+    requires watches { HasWatches {I = P.Item} B.items world.old watches.old }
     requires fits { AllFit B.fits world.old program.now }
     requires limited { limit ≤ 2 ^ 40 }
     requires begins { (bags : ℕ → List P.Item) ×
@@ -222,8 +210,9 @@ fn play<P: Program, B: Bag<P>, S: Schedule>(
         P.Value.unit world.old bags (S.will schedule.old) world.new) }
     ensures fault { IfErr result (λ e. (bags : ℕ → List P.Item) →
         Begins B.items (P.value program.now) P.Value.combine P.Value.unit world.old bags →
-        HasCause (P.children program.now) (join_to world.old.cube.places bags)
-        world.old.params.batch limit e) }
+        HasCause (P.children program.now) (join_to world.old.cube.places bags) limit e) }
+    ensures last_batch { IfErr result (PassesByAtMost world.old.params.batch limit) }
+    ensures halted { IfErr result (λ e. Halted {I = P.Item} B.items (code_of e) world.new) }
 {
     for _ in 0..u64::MAX {
         let number = schedule.turn();
@@ -245,8 +234,8 @@ fn play<P: Program, B: Bag<P>, S: Schedule>(
     unreachable!()
 }
 
-/// Plays the places of a world by turns, each with the list of roots that it starts with, until every
-/// place is Gone. It returns also where a tree has no end: the limit ends the run.
+/// Plays the places of a world by turns, each with the list of roots that it starts with, until
+/// every place is Gone. It returns also where a tree has no end: the limit ends the run.
 pub fn run_turns<P: Program, B: Bag<P>, S: Schedule>(
     alloc: Global,
     program: &P,
@@ -263,7 +252,8 @@ pub fn run_turns<P: Program, B: Bag<P>, S: Schedule>(
     ensures fault { IfErr result
         (HasCause (P.children program.now)
         (join_to params.now.places (λ p. get_or (map (λ v. v.items) roots.items) p []))
-        params.now.batch params.now.limit) }
+        params.now.limit) }
+    ensures last_batch { IfErr result (PassesByAtMost params.now.batch params.now.limit) }
 {
     let Ok(bags) = bags_of::<P, B>(alloc, program, roots) else {
         return Err(RunFault::NoMemory);

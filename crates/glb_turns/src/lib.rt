@@ -4,8 +4,6 @@
 mod bags;
 mod driver;
 mod schedule;
-#[cfg(test)]
-mod tests;
 mod watch;
 
 pub use driver::run_turns;

@@ -19,8 +19,9 @@ pub struct Rounds {
 }
 
 impl Rounds {
+    /// The numbers from 0 on.
     pub fn new() -> Rounds
-        ensures { result.next ≡ 0 }
+        ensures { (k : ℕ) → ⟦<Rounds as Schedule>⟧.will result k ≡ k % 2 ^ 32 }
     {
         Rounds { next: 0 }
     }

@@ -1,20 +1,21 @@
-//! What the driver knows of each place, so that a place looks round only where what it sees may have
-//! changed, and one that has nothing to do is passed without a look.
-ghost use Rattle.std.specs.Prelude.{◌≡◌, ◌≢◌, ◌==◌, ℕ, ◌<◌, List, length, get_or, set, IfOk, IfSome};
-ghost use Rattle.glb_core.specs.World.{Setup, World as Whole};
-ghost use Rattle.glb_core.specs.Effects.{looked};
-ghost use Rattle.glb_core.specs.Events.{actor};
-ghost use Rattle.glb_core.specs.Sight.{sight, sight_at};
-ghost use Rattle.glb_core.specs.TableEffects.{NamesBelow};
+//! What the driver knows of each place, so that a place looks round only where what it sees may
+//! have changed, and one that has nothing to do is passed without a look.
+ghost use Rattle.std.specs.Prelude.{◌≡◌, ◌≢◌, ◌==◌, ℕ, ◌<◌, List, length, get_or, set, IfOk};
+ghost use Rattle.std.specs.Prelude.{IfSome};
+ghost use Rattle.glb_rules.specs.World.{Setup, World as AbstractWorld};
+ghost use Rattle.glb_core.specs.Seen.{sight};
+ghost use Rattle.glb_rules.specs.Sight.{sight_at};
+ghost use Rattle.glb_rules.specs.Events.{NamesBelow};
 ghost use Rattle.glb_core.specs.Tables.{WorldView};
-ghost use Rattle.glb_core.specs.Standing.{StandsFor};
-ghost use Rattle.glb_turns.specs.Turns.{IsPlayed, DecidesAt};
-ghost use Rattle.glb_turns.specs.Watches.{forgotten, other_end, IsFirstUnseen, LooksBy, LooksOn, NotesLook, IsWatchOf, HasWatches, AreStale, Follows};
+ghost use Rattle.glb_core.specs.Standing.{Represents};
+ghost use Rattle.glb_turns.specs.inner.Turns.{IsPlayed, DecidesAt};
+ghost use Rattle.glb_rules.specs.Events.{other_end};
+ghost use Rattle.glb_turns.specs.inner.Watches.{forgotten, IsFirstUnseen, LooksBy, LooksOn};
+ghost use Rattle.glb_turns.specs.inner.Watches.{NotesLook, IsWatchOf, HasWatches, AreStale};
+ghost use Rattle.glb_turns.specs.inner.Watches.{Follows};
 ghost use Rattle.glb_turns.specs.declared.watch.Knowledge.TheVariants as knowledge;
 
-use glb_core::{
-    Action, Credit, Edge, Event, InEdge, Kind, Mark, Phase, PlaceState, Seen, World, next,
-};
+use glb_core::{Action, Credit, Event, InEdge, Kind, Mark, Phase, PlaceState, Seen, World, next};
 use glb_cube::Lines;
 use glb_laws::{Bag, NoMemory, Program};
 use std::alloc::Global;
@@ -56,20 +57,18 @@ pub(crate) fn watches_of(alloc: Global, lines: &Lines) -> Result<Vec<Watch>, NoM
 }
 
 /// Nothing is known of the place any more.
-fn forget(watches: &mut Vec<Watch>, place: u32)
-    requires { place < length watches.old.items }
-    ensures many { length watches.new.items ≡ length watches.old.items }
-    ensures forgotten { (d : Watch) → watches.new.items
-        ≡ set watches.old.items place (forgotten (get_or watches.old.items place d)) }
+fn forget(watches: &mut [Watch], place: u32)
+    requires { place < length watches.old }
+    ensures { (d : Watch) → watches.new
+        ≡ set watches.old place (forgotten (get_or watches.old place d)) }
 {
     watches[place as usize].knowledge = Knowledge::Stale;
 }
 
 /// Nothing is known of any place any more.
-pub(crate) fn forget_all(watches: &mut Vec<Watch>)
-    ensures many { length watches.new.items ≡ length watches.old.items }
-    ensures stale { (p : ℕ) (d : Watch) → p < length watches.old.items
-        → get_or watches.new.items p d ≡ forgotten (get_or watches.old.items p d) }
+pub(crate) fn forget_all(watches: &mut [Watch])
+    ensures { (p : ℕ) (d : Watch) → p < length watches.old
+        → get_or watches.new p d ≡ forgotten (get_or watches.old p d) }
 {
     for place in 0..watches.len() {
         watches[place].knowledge = Knowledge::Stale;
@@ -82,7 +81,7 @@ fn refresh<P: Program, B: Bag<P>>(world: &World<P, B>, watch: &mut Watch, place:
     requires watch { IsWatchOf {I = P.Item} B.items world.now place watch.old }
     requires open { watch.old.knowledge ≢ knowledge.Passes }
     ensures watch { IsWatchOf {I = P.Item} B.items world.now place watch.new }
-    ensures fresh { (s : Setup) (w : Whole P.Item) → StandsFor B.items s world.now w
+    ensures fresh { (s : Setup) (w : AbstractWorld P.Item) → Represents B.items s world.now w
         → sight watch.new.seen ≡ sight_at s w place }
 {
     match watch.knowledge {
@@ -133,7 +132,7 @@ fn decide<P: Program, B: Bag<P>>(
     requires open { watch.old.knowledge ≢ knowledge.Passes }
     requires played { IsPlayed {I = P.Item} B.items world.now }
     ensures watch { IsWatchOf {I = P.Item} B.items world.now place watch.new }
-    ensures decides { (s : Setup) (w : Whole P.Item) → StandsFor B.items s world.now w →
+    ensures decides { (s : Setup) (w : AbstractWorld P.Item) → Represents B.items s world.now w →
         DecidesAt world.now.params.seed s w place result }
 {
     let state = world.state(place);
@@ -164,7 +163,7 @@ pub(crate) fn decision_of<P: Program, B: Bag<P>>(
     requires watch { IsWatchOf {I = P.Item} B.items world.now place watch.old }
     requires played { IsPlayed {I = P.Item} B.items world.now }
     ensures watch { IsWatchOf {I = P.Item} B.items world.now place watch.new }
-    ensures decides { (s : Setup) (w : Whole P.Item) → StandsFor B.items s world.now w →
+    ensures decides { (s : Setup) (w : AbstractWorld P.Item) → Represents B.items s world.now w →
         DecidesAt world.now.params.seed s w place result }
 {
     match watch.knowledge {
@@ -181,16 +180,6 @@ pub(crate) fn decision_of<P: Program, B: Bag<P>>(
     }
 }
 
-/// The mark that a look leaves.
-fn mark_of(edge: Edge) -> Mark
-    ensures { result ≡ looked edge }
-{
-    match edge {
-        Edge::Asked => Mark::Pending,
-        Edge::Idle | Edge::Refused | Edge::Loot => Mark::Clear,
-    }
-}
-
 /// Whether the place that has looked at the in-edge at the index looks at the one after it.
 fn look_on(ins: &[InEdge], at: usize) -> Knowledge
     requires { at < length ins.now }
@@ -203,8 +192,8 @@ fn look_on(ins: &[InEdge], at: usize) -> Knowledge
     }
 }
 
-/// What is known of a place that has looked at the in-edge from this thief: all still, where this was
-/// the in-edge at which it was to look.
+/// What is known of a place that has looked at the in-edge from this thief: all still, where this
+/// was the in-edge at which it was to look.
 fn note_look(watch: &mut Watch, thief: u32, kind: Kind)
     ensures { NotesLook thief kind watch.old watch.new }
 {
@@ -212,7 +201,7 @@ fn note_look(watch: &mut Watch, thief: u32, kind: Kind)
         if at < watch.seen.ins.len() {
             let edge = watch.seen.ins[at];
             if edge.thief == thief && edge.kind == kind {
-                watch.seen.ins[at].mark = mark_of(edge.edge);
+                watch.seen.ins[at].mark = edge.edge.mark_after_look();
                 watch.knowledge = look_on(&watch.seen.ins, at);
                 return;
             }
@@ -221,43 +210,21 @@ fn note_look(watch: &mut Watch, thief: u32, kind: Kind)
     watch.knowledge = Knowledge::Stale;
 }
 
-/// The place whose event it is, and the one at the other end of the edge that the event changes; the
-/// same place again where it changes none.
-fn ends_of(event: Event) -> (u32, u32)
-    ensures actor { result.0 ≡ actor event }
-    ensures other { result.1 ≡ other_end event }
-{
-    match event {
-        Event::Look { place, .. }
-        | Event::Batch { place }
-        | Event::Mint { place }
-        | Event::Burn { place }
-        | Event::Sleep { place }
-        | Event::Leave { place }
-        | Event::Halt { place, .. } => (place, place),
-        Event::Deny { place, thief, .. } | Event::Give { place, thief, .. } => (place, thief),
-        Event::Ask { place, victim, .. }
-        | Event::Take { place, victim, .. }
-        | Event::Shrug { place, victim, .. } => (place, victim),
-    }
-}
-
-/// Keeps what is known of the places after the event, but for those that see what it changed. Before
-/// the event the run had this end, or not, and this stop code.
+/// Keeps what is known of the places after the event, but for those that see what it changed.
+/// Before the event the run had this end, or not, and this stop code.
 pub(crate) fn notice<P: Program, B: Bag<P>>(
     world: &World<P, B>,
-    watches: &mut Vec<Watch>,
+    watches: &mut [Watch],
     event: Event,
     ended: bool,
     stop: u64,
 )
-    requires many { length watches.old.items ≡ world.now.cube.places }
+    requires many { length watches.old ≡ world.now.cube.places }
     requires named { NamesBelow world.now.cube.places event }
-    ensures many { length watches.new.items ≡ world.now.cube.places }
-    ensures watches { (old : WorldView B P.Value) → HasWatches {I = P.Item} B.items old watches.old.items
+    ensures { (old : WorldView B P.Value) → HasWatches {I = P.Item} B.items old watches.old
         → ended ≡ (old.live == 0) → stop ≡ old.stop
         → (children : P.Item → List P.Item) → Follows B.items children old event world.now
-        → HasWatches {I = P.Item} B.items world.now watches.new.items }
+        → HasWatches {I = P.Item} B.items world.now watches.new }
 {
     if (world.live() == 0) == ended && world.stop() == stop {
         match event {
@@ -265,9 +232,8 @@ pub(crate) fn notice<P: Program, B: Bag<P>>(
                 note_look(&mut watches[place as usize], thief, kind);
             }
             _ => {
-                let (place, other) = ends_of(event);
-                forget(watches, place);
-                forget(watches, other);
+                forget(watches, event.place());
+                forget(watches, event.other_end());
             }
         }
     } else {

@@ -1,17 +1,19 @@
 //! Where each event is enabled.
-ghost use Rattle.std.specs.Prelude.{◌≡◌, ◌≢◌, ℕ, ◌+◌, ◌*◌, ◌^◌, ◌<◌, ◌≤◌, ◌↔◌, ◌⊎◌, Bool, true, false, length, get_or, vec_len, All};
-ghost use Rattle.glb_cube.specs.Lines.{has_number, outs_of, IsLine};
-ghost use Rattle.glb_core.specs.declared.kinds.Kind.TheVariants as variant_kind;
-ghost use Rattle.glb_core.specs.declared.kinds.Phase.TheVariants as variant_phase;
-ghost use Rattle.glb_core.specs.declared.kinds.Credit.TheVariants as variant_credit;
-ghost use Rattle.glb_core.specs.declared.kinds.Mark.TheVariants as variant_mark;
-ghost use Rattle.glb_core.specs.declared.world.seat.Slot.TheVariants as kept;
-ghost use Rattle.glb_core.specs.Tables.{mark_index as spec_mark_index, slot_index as spec_slot_index, view_of};
-ghost use Rattle.glb_core.specs.Standing.{IsSound, Tells};
-ghost use Rattle.glb_core.specs.TableEffects.{IsLooted, IsOpen, IsHeld, EachIn, AllOthers, WantedIn, NamesBelow, MayMint, MayBatch, MaySleep};
+ghost use Rattle.std.specs.Prelude.{◌≡◌, ◌≢◌, ℕ, ◌+◌, ◌*◌, ◌^◌, ◌<◌, ◌≤◌, ◌↔◌, ◌⊎◌, Bool, true};
+ghost use Rattle.std.specs.Prelude.{false, IsTrue, length, get_or, vec_len, All};
+ghost use Rattle.glb_laws.specs.Numbers.{has_number};
+ghost use Rattle.glb_cube.specs.Lines.{outs_of};
+ghost use Rattle.glb_core.specs.Tables.{mark_index as spec_mark_index};
+ghost use Rattle.glb_core.specs.Tables.{edge_index as spec_edge_index, view_of};
+ghost use Rattle.glb_core.specs.Standing.{IsSound};
+ghost use Rattle.glb_core.specs.inner.Conditions.{HasCaseExactly};
+ghost use Rattle.glb_core.specs.inner.Conditions.{HoldsPart, IsWantedRow, IsArmedRow, EachIn};
+ghost use Rattle.glb_core.specs.inner.Conditions.{AllOthers, IsWantedIn, MayMint, MayBatch};
+ghost use Rattle.glb_core.specs.inner.Conditions.{MaySleep};
+ghost use Rattle.glb_rules.specs.Events.{NamesBelow};
 
-use super::effects::{actor_of, mark_index, slot_index, slot_of};
-use super::seat::{Seat, Slot};
+use super::layout::{edge_index, edge_index_of, mark_index};
+use super::rows::{EdgeRow, PlaceRow};
 use super::tables::Tables;
 use crate::{Credit, Event, Kind, Mark, Phase};
 use glb_cube::Lines;
@@ -33,8 +35,8 @@ pub(crate) fn is_line(lines: &Lines, thief: u32, victim: u32) -> bool
 /// Whether the edge is there.
 fn is_there(lines: &Lines, kind: Kind, thief: u32, victim: u32) -> bool
     requires { thief < lines.now.places }
-    ensures steal { kind ≡ variant_kind.Steal → (result ≡ true ↔ thief ≢ victim) }
-    ensures line { kind ≡ variant_kind.Line → result ≡ has_number victim (outs_of lines.now thief) }
+    ensures steal { kind ≡ Kind.Steal → (IsTrue result ↔ thief ≢ victim) }
+    ensures line { kind ≡ Kind.Line → result ≡ has_number victim (outs_of lines.now thief) }
 {
     match kind {
         Kind::Steal => thief != victim,
@@ -42,239 +44,118 @@ fn is_there(lines: &Lines, kind: Kind, thief: u32, victim: u32) -> bool
     }
 }
 
-fn is_idle<B>(slot: &Slot<B>) -> bool
-    ensures { result ≡ true ↔ slot.now ≡ kept.Idle }
-{
-    match slot {
-        Slot::Idle => true,
-        _ => false,
-    }
-}
-
-fn is_asked<B>(slot: &Slot<B>) -> bool
-    ensures { result ≡ true ↔ slot.now ≡ kept.Asked }
-{
-    match slot {
-        Slot::Asked => true,
-        _ => false,
-    }
-}
-
-fn is_refused<B>(slot: &Slot<B>) -> bool
-    ensures { result ≡ true ↔ slot.now ≡ kept.Refused }
-{
-    match slot {
-        Slot::Refused => true,
-        _ => false,
-    }
-}
-
-fn has_loot<B>(slot: &Slot<B>) -> bool
-    ensures { result ≡ true ↔ IsLooted slot.now }
-{
-    match slot {
-        Slot::Loot(_) => true,
-        _ => false,
-    }
-}
-
-fn is_line_kind(kind: Kind) -> bool
-    ensures { result ≡ true ↔ kind ≡ variant_kind.Line }
-{
-    match kind {
-        Kind::Steal => false,
-        Kind::Line => true,
-    }
-}
-
 /// Whether the request asks for work, or is remembered.
-fn is_wanted<B>(slot: &Slot<B>, kind: Kind) -> bool
-    ensures { result ≡ true ↔ (slot.now ≡ kept.Asked)
-        ⊎ ((kind ≡ variant_kind.Line) × (slot.now ≡ kept.Refused)) }
+fn is_wanted<B>(edge_row: &EdgeRow<B>, kind: Kind) -> bool
+    ensures { IsTrue result ↔ (edge_row.now ≡ EdgeRow.Asked)
+        ⊎ ((kind ≡ Kind.Line) × (edge_row.now ≡ EdgeRow.Refused)) }
 {
-    is_asked(slot) || (is_line_kind(kind) && is_refused(slot))
+    matches!(edge_row, EdgeRow::Asked)
+        || (kind == Kind::Line && matches!(edge_row, EdgeRow::Refused))
 }
 
-fn works<B>(seat: &Seat<B>) -> bool
-    ensures { result ≡ true ↔ seat.now.phase ≡ variant_phase.Working }
+fn may_look<B>(place_row: &PlaceRow<B>, there: bool, at: usize) -> bool
+    requires { at < vec_len place_row.now.marks }
+    ensures { IsTrue result ↔ (place_row.now.phase ≡ Phase.Working) × (there ≡ true)
+        × (get_or place_row.now.marks.items at Mark.Unseen ≡ Mark.Unseen) }
 {
-    match seat.phase {
-        Phase::Working => true,
-        _ => false,
-    }
+    place_row.phase == Phase::Working && there && place_row.marks[at] == Mark::Unseen
 }
 
-fn idles<B>(seat: &Seat<B>) -> bool
-    ensures { result ≡ true ↔ seat.now.phase ≡ variant_phase.Idle }
+fn may_ask<B>(place_row: &PlaceRow<B>, edge_row: &EdgeRow<B>, there: bool, kind: Kind) -> bool
+    ensures steal { kind ≡ Kind.Steal
+        → (IsTrue result ↔ (place_row.now.phase ≡ Phase.Idle)
+        × (0 < place_row.now.tries) × (there ≡ true) × (edge_row.now ≡ EdgeRow.Idle)) }
+    ensures line { kind ≡ Kind.Line → (IsTrue result ↔ (place_row.now.phase ≡ Phase.Idle)
+        × (place_row.now.tries ≡ 0) × (there ≡ true) × (edge_row.now ≡ EdgeRow.Idle)) }
 {
-    match seat.phase {
-        Phase::Idle => true,
-        _ => false,
-    }
-}
-
-fn sleeps<B>(seat: &Seat<B>) -> bool
-    ensures { result ≡ true ↔ seat.now.phase ≡ variant_phase.Asleep }
-{
-    match seat.phase {
-        Phase::Asleep => true,
-        _ => false,
-    }
-}
-
-fn stays<B>(seat: &Seat<B>) -> bool
-    ensures { result ≡ true ↔ seat.now.phase ≢ variant_phase.Gone }
-{
-    match seat.phase {
-        Phase::Gone => false,
-        _ => true,
-    }
-}
-
-fn has_one<B>(seat: &Seat<B>) -> bool
-    ensures { result ≡ true ↔ seat.now.credit ≡ variant_credit.One }
-{
-    match seat.credit {
-        Credit::One => true,
-        _ => false,
-    }
-}
-
-fn has_minted<B>(seat: &Seat<B>) -> bool
-    ensures { result ≡ true ↔ seat.now.credit ≡ variant_credit.Minted }
-{
-    match seat.credit {
-        Credit::Minted => true,
-        _ => false,
-    }
-}
-
-fn waits<B>(seat: &Seat<B>, victim: u32, kind: Kind) -> bool
-    ensures { result ≡ true ↔ seat.now.phase ≡ variant_phase.Waiting victim kind }
-{
-    match seat.phase {
-        Phase::Waiting {
-            victim: asked,
-            kind: by,
-        } => asked == victim && by == kind,
-        _ => false,
-    }
-}
-
-fn may_look<B>(seat: &Seat<B>, there: bool, at: usize) -> bool
-    requires { at < vec_len seat.now.marks }
-    ensures { result ≡ true ↔ (seat.now.phase ≡ variant_phase.Working) × (there ≡ true)
-        × (get_or seat.now.marks.items at variant_mark.Unseen ≡ variant_mark.Unseen) }
-{
-    works(seat) && there && is_unseen(seat.marks[at])
-}
-
-fn is_unseen(mark: Mark) -> bool
-    ensures { result ≡ true ↔ mark ≡ variant_mark.Unseen }
-{
-    match mark {
-        Mark::Unseen => true,
-        _ => false,
-    }
-}
-
-fn is_clear(mark: Mark) -> bool
-    ensures { result ≡ true ↔ mark ≡ variant_mark.Clear }
-{
-    match mark {
-        Mark::Clear => true,
-        _ => false,
-    }
-}
-
-fn may_ask<B>(seat: &Seat<B>, slot: &Slot<B>, there: bool, kind: Kind) -> bool
-    ensures steal { kind ≡ variant_kind.Steal
-        → (result ≡ true ↔ (seat.now.phase ≡ variant_phase.Idle)
-        × (0 < seat.now.tries) × (there ≡ true) × (slot.now ≡ kept.Idle)) }
-    ensures line { kind ≡ variant_kind.Line → (result ≡ true ↔ (seat.now.phase ≡ variant_phase.Idle)
-        × (seat.now.tries ≡ 0) × (there ≡ true) × (slot.now ≡ kept.Idle)) }
-{
-    let has_tries = seat.tries > 0;
+    let has_tries = place_row.tries > 0;
     let of_kind = match kind {
         Kind::Steal => has_tries,
         Kind::Line => !has_tries,
     };
-    idles(seat) && of_kind && there && is_idle(slot)
+    place_row.phase == Phase::Idle && of_kind && there && matches!(edge_row, EdgeRow::Idle)
 }
 
-fn may_deny<P: Program, B: Bag<P>>(seat: &Seat<B>, slot: &Slot<B>) -> bool
-    ensures { result ≡ true ↔ (slot.now ≡ kept.Asked) × (seat.now.phase ≢ variant_phase.Gone)
-        × ((seat.now.phase ≢ variant_phase.Working) ⊎ (length (B.items seat.now.bag) < 2)) }
+fn may_deny<P: Program, B: Bag<P>>(place_row: &PlaceRow<B>, edge_row: &EdgeRow<B>) -> bool
+    ensures { IsTrue result ↔ (edge_row.now ≡ EdgeRow.Asked) × (place_row.now.phase ≢ Phase.Gone)
+        × ((place_row.now.phase ≢ Phase.Working) ⊎ (length (B.items place_row.now.bag) < 2)) }
 {
-    is_asked(slot) && stays(seat) && (!works(seat) || !seat.bag.can_split())
+    matches!(edge_row, EdgeRow::Asked)
+        && place_row.phase != Phase::Gone
+        && (place_row.phase != Phase::Working || !place_row.bag.can_split())
 }
 
-fn may_give<B>(seat: &Seat<B>, slot: &Slot<B>, kind: Kind) -> bool
-    ensures { result ≡ true ↔ (seat.now.phase ≡ variant_phase.Working)
-        × (seat.now.credit ≡ variant_credit.Minted)
-        × ((slot.now ≡ kept.Asked) ⊎ ((kind ≡ variant_kind.Line) × (slot.now ≡ kept.Refused))) }
+fn may_give<B>(place_row: &PlaceRow<B>, edge_row: &EdgeRow<B>, kind: Kind) -> bool
+    ensures { IsTrue result ↔ (place_row.now.phase ≡ Phase.Working)
+        × (place_row.now.credit ≡ Credit.Minted)
+        × ((edge_row.now ≡ EdgeRow.Asked) ⊎
+        ((kind ≡ Kind.Line) × (edge_row.now ≡ EdgeRow.Refused))) }
 {
-    works(seat) && has_minted(seat) && is_wanted(slot, kind)
+    place_row.phase == Phase::Working
+        && place_row.credit == Credit::Minted
+        && is_wanted(edge_row, kind)
 }
 
-fn is_ready<B>(seat: &Seat<B>) -> bool
-    ensures { result ≡ true ↔ (seat.now.phase ≡ variant_phase.Asleep)
-        ⊎ (seat.now.phase ≡ variant_phase.Idle)
-        ⊎ ((seat.now.phase ≡ variant_phase.Working) × (seat.now.credit ≡ variant_credit.One)) }
+fn is_ready<B>(place_row: &PlaceRow<B>) -> bool
+    ensures { IsTrue result ↔ (place_row.now.phase ≡ Phase.Asleep)
+        ⊎ (place_row.now.phase ≡ Phase.Idle)
+        ⊎ ((place_row.now.phase ≡ Phase.Working) × (place_row.now.credit ≡ Credit.One)) }
 {
-    sleeps(seat) || idles(seat) || (works(seat) && has_one(seat))
+    place_row.phase == Phase::Asleep
+        || place_row.phase == Phase::Idle
+        || (place_row.phase == Phase::Working && place_row.credit == Credit::One)
 }
 
-fn may_take<B>(seat: &Seat<B>, slot: &Slot<B>, victim: u32, kind: Kind) -> bool
-    ensures { result ≡ true ↔ IsLooted slot.now
-        × (((seat.now.phase ≡ variant_phase.Waiting victim kind)
-        × (seat.now.credit ≡ variant_credit.One))
-        ⊎ ((kind ≡ variant_kind.Line)
-        × ((seat.now.phase ≡ variant_phase.Asleep) ⊎ (seat.now.phase ≡ variant_phase.Idle)
-        ⊎ ((seat.now.phase ≡ variant_phase.Working) × (seat.now.credit ≡ variant_credit.One))))) }
+fn may_take<B>(place_row: &PlaceRow<B>, edge_row: &EdgeRow<B>, victim: u32, kind: Kind) -> bool
+    ensures { IsTrue result ↔ HoldsPart edge_row.now
+        × (((place_row.now.phase ≡ Phase.Waiting victim kind)
+        × (place_row.now.credit ≡ Credit.One))
+        ⊎ ((kind ≡ Kind.Line)
+        × ((place_row.now.phase ≡ Phase.Asleep) ⊎ (place_row.now.phase ≡ Phase.Idle)
+        ⊎ ((place_row.now.phase ≡ Phase.Working) × (place_row.now.credit ≡ Credit.One))))) }
 {
-    has_loot(slot)
-        && ((waits(seat, victim, kind) && has_one(seat)) || (is_line_kind(kind) && is_ready(seat)))
+    matches!(edge_row, EdgeRow::Loot(_))
+        && ((place_row.phase == Phase::Waiting { victim, kind } && place_row.credit == Credit::One)
+            || (kind == Kind::Line && is_ready(place_row)))
 }
 
-fn may_burn<B>(seat: &Seat<B>) -> bool
-    ensures { result ≡ true ↔ seat.now.credit ≡ variant_credit.Taken }
+fn may_burn<B>(place_row: &PlaceRow<B>) -> bool
+    ensures { IsTrue result ↔ place_row.now.credit ≡ Credit.Taken }
 {
-    match seat.credit {
-        Credit::Taken => true,
-        _ => false,
-    }
+    place_row.credit == Credit::Taken
 }
 
-fn may_shrug<B>(seat: &Seat<B>, slot: &Slot<B>, victim: u32, kind: Kind) -> bool
-    ensures { result ≡ true ↔ (seat.now.phase ≡ variant_phase.Waiting victim kind)
-        × (slot.now ≡ kept.Refused) }
+fn may_shrug<B>(place_row: &PlaceRow<B>, edge_row: &EdgeRow<B>, victim: u32, kind: Kind) -> bool
+    ensures { IsTrue result ↔ (place_row.now.phase ≡ Phase.Waiting victim kind)
+        × (edge_row.now ≡ EdgeRow.Refused) }
 {
-    waits(seat, victim, kind) && is_refused(slot)
+    place_row.phase == Phase::Waiting { victim, kind } && matches!(edge_row, EdgeRow::Refused)
 }
 
-fn may_leave<B>(seat: &Seat<B>, live: u64, stop: u64) -> bool
-    ensures { result ≡ true ↔ (seat.now.phase ≢ variant_phase.Gone) × ((live ≡ 0) ⊎ (stop ≢ 0)) }
+fn may_leave<B>(place_row: &PlaceRow<B>, live: u64, stop: u64) -> bool
+    ensures { IsTrue result ↔ (place_row.now.phase ≢ Phase.Gone) × ((live ≡ 0) ⊎ (stop ≢ 0)) }
 {
-    stays(seat) && (live == 0 || stop != 0)
+    place_row.phase != Phase::Gone && (live == 0 || stop != 0)
 }
 
-fn may_halt<B>(seat: &Seat<B>, code: u64) -> bool
-    ensures { result ≡ true ↔ (seat.now.phase ≢ variant_phase.Gone) × ((code ≡ 1) ⊎ (code ≡ 2)) }
+fn may_halt<B>(place_row: &PlaceRow<B>, code: u64) -> bool
+    ensures { IsTrue result ↔ (place_row.now.phase ≢ Phase.Gone) × ((code ≡ 1) ⊎ (code ≡ 2)) }
 {
-    stays(seat) && (code == 1 || code == 2)
+    place_row.phase != Phase::Gone && (code == 1 || code == 2)
 }
 
 /// Whether each steal edge to the place has the mark Clear.
-fn clear_of_steals<B>(seat: &Seat<B>, places: u32, place: u32) -> bool
+fn clear_of_steals<B>(place_row: &PlaceRow<B>, places: u32, place: u32) -> bool
     requires few { places ≤ 64 }
-    requires marks { vec_len seat.now.marks ≡ 2 * places }
-    ensures { result ≡ true ↔ AllOthers places place
-        (λ t. get_or seat.now.marks.items (spec_mark_index places variant_kind.Steal t) variant_mark.Unseen
-        ≡ variant_mark.Clear) }
+    requires marks { vec_len place_row.now.marks ≡ 2 * places }
+    ensures { IsTrue result ↔ AllOthers places place
+        (λ t. get_or place_row.now.marks.items (spec_mark_index places Kind.Steal t) Mark.Unseen
+        ≡ Mark.Clear) }
 {
     for thief in 0..places {
-        if thief != place && !is_clear(seat.marks[mark_index(places, Kind::Steal, thief)]) {
+        if thief != place
+            && place_row.marks[mark_index(places, Kind::Steal, thief)] != Mark::Clear
+        {
             return false;
         }
     }
@@ -282,16 +163,16 @@ fn clear_of_steals<B>(seat: &Seat<B>, places: u32, place: u32) -> bool
 }
 
 /// Whether each of the thieves' lifelines has the mark Clear.
-fn clear_of_lines<B>(seat: &Seat<B>, places: u32, thieves: &[u32]) -> bool
+fn clear_of_lines<B>(place_row: &PlaceRow<B>, places: u32, thieves: &[u32]) -> bool
     requires few { places ≤ 64 }
     requires thieves { All (λ t. t < places) thieves.now }
-    requires marks { vec_len seat.now.marks ≡ 2 * places }
-    ensures { result ≡ true ↔ EachIn thieves.now
-        (λ t. get_or seat.now.marks.items (spec_mark_index places variant_kind.Line t) variant_mark.Unseen
-        ≡ variant_mark.Clear) }
+    requires marks { vec_len place_row.now.marks ≡ 2 * places }
+    ensures { IsTrue result ↔ EachIn thieves.now
+        (λ t. get_or place_row.now.marks.items (spec_mark_index places Kind.Line t) Mark.Unseen
+        ≡ Mark.Clear) }
 {
     for thief in thieves {
-        if !is_clear(seat.marks[mark_index(places, Kind::Line, *thief)]) {
+        if place_row.marks[mark_index(places, Kind::Line, *thief)] != Mark::Clear {
             return false;
         }
     }
@@ -299,18 +180,20 @@ fn clear_of_lines<B>(seat: &Seat<B>, places: u32, thieves: &[u32]) -> bool
 }
 
 /// Whether a steal edge to the place is Asked.
-fn is_asked_by_steals<B>(slots: &[Slot<B>], places: u32, place: u32) -> bool
+fn is_asked_by_steals<B>(edge_rows: &[EdgeRow<B>], places: u32, place: u32) -> bool
     requires few { places ≤ 64 }
     requires place { place < places }
-    requires slots { length slots.now ≡ places * 2 * places }
+    requires edge_rows { length edge_rows.now ≡ places * 2 * places }
     ensures found { result ≡ true → (t : ℕ) × (t < places) × (t ≢ place)
-        × (get_or slots.now (spec_slot_index places variant_kind.Steal t place) kept.Idle
-        ≡ kept.Asked) }
+        × (get_or edge_rows.now (spec_edge_index places Kind.Steal t place) EdgeRow.Idle
+        ≡ EdgeRow.Asked) }
     ensures none { result ≡ false → AllOthers places place
-        (λ t. get_or slots.now (spec_slot_index places variant_kind.Steal t place) kept.Idle ≢ kept.Asked) }
+        (λ t. get_or edge_rows.now
+        (spec_edge_index places Kind.Steal t place) EdgeRow.Idle ≢ EdgeRow.Asked) }
 {
     for thief in 0..places {
-        if thief != place && is_asked(&slots[slot_index(places, Kind::Steal, thief, place)]) {
+        let edge_row = &edge_rows[edge_index(places, Kind::Steal, thief, place)];
+        if thief != place && matches!(edge_row, EdgeRow::Asked) {
             return true;
         }
     }
@@ -318,20 +201,22 @@ fn is_asked_by_steals<B>(slots: &[Slot<B>], places: u32, place: u32) -> bool
 }
 
 /// Whether one of the thieves' lifelines to the place is Asked or Refused.
-fn is_asked_by_lines<B>(slots: &[Slot<B>], places: u32, place: u32, thieves: &[u32]) -> bool
+fn is_asked_by_lines<B>(edge_rows: &[EdgeRow<B>], places: u32, place: u32, thieves: &[u32]) -> bool
     requires few { places ≤ 64 }
     requires place { place < places }
     requires thieves { All (λ t. t < places) thieves.now }
-    requires slots { length slots.now ≡ places * 2 * places }
+    requires edge_rows { length edge_rows.now ≡ places * 2 * places }
     ensures found { result ≡ true → (i : ℕ) × (i < length thieves.now)
-        × IsOpen (get_or slots.now (spec_slot_index places variant_kind.Line (get_or thieves.now i 0) place)
-        kept.Idle) }
+        × IsWantedRow (get_or edge_rows.now
+        (spec_edge_index places Kind.Line (get_or thieves.now i 0) place)
+        EdgeRow.Idle) }
     ensures none { result ≡ false → EachIn thieves.now
-        (λ t. IsOpen (get_or slots.now (spec_slot_index places variant_kind.Line t place) kept.Idle) → ⊥) }
+        (λ t. IsWantedRow (get_or edge_rows.now
+        (spec_edge_index places Kind.Line t place) EdgeRow.Idle) → ⊥) }
 {
     for thief in thieves {
         if is_wanted(
-            &slots[slot_index(places, Kind::Line, *thief, place)],
+            &edge_rows[edge_index(places, Kind::Line, *thief, place)],
             Kind::Line,
         ) {
             return true;
@@ -341,63 +226,67 @@ fn is_asked_by_lines<B>(slots: &[Slot<B>], places: u32, place: u32, thieves: &[u
 }
 
 /// Whether the request of one of the thieves' lifelines to the place is remembered.
-fn holds_request<B>(slots: &[Slot<B>], places: u32, place: u32, thieves: &[u32]) -> bool
+fn holds_request<B>(edge_rows: &[EdgeRow<B>], places: u32, place: u32, thieves: &[u32]) -> bool
     requires few { places ≤ 64 }
     requires place { place < places }
     requires thieves { All (λ t. t < places) thieves.now }
-    requires slots { length slots.now ≡ places * 2 * places }
+    requires edge_rows { length edge_rows.now ≡ places * 2 * places }
     ensures found { result ≡ true → (i : ℕ) × (i < length thieves.now)
-        × (get_or slots.now (spec_slot_index places variant_kind.Line (get_or thieves.now i 0) place)
-        kept.Idle ≡ kept.Refused) }
+        × (get_or edge_rows.now (spec_edge_index places Kind.Line (get_or thieves.now i 0) place)
+        EdgeRow.Idle ≡ EdgeRow.Refused) }
     ensures none { result ≡ false → EachIn thieves.now
-        (λ t. get_or slots.now (spec_slot_index places variant_kind.Line t place) kept.Idle ≢ kept.Refused) }
+        (λ t. get_or edge_rows.now
+        (spec_edge_index places Kind.Line t place) EdgeRow.Idle ≢ EdgeRow.Refused) }
 {
     for thief in thieves {
-        if is_refused(&slots[slot_index(places, Kind::Line, *thief, place)]) {
+        let edge_row = &edge_rows[edge_index(places, Kind::Line, *thief, place)];
+        if matches!(edge_row, EdgeRow::Refused) {
             return true;
         }
     }
     false
 }
 
-fn is_armed<B>(slot: &Slot<B>) -> bool
-    ensures { result ≡ true ↔ IsHeld slot.now }
+fn is_armed<B>(edge_row: &EdgeRow<B>) -> bool
+    ensures { IsTrue result ↔ IsArmedRow edge_row.now }
 {
-    is_refused(slot) || has_loot(slot)
+    matches!(edge_row, EdgeRow::Refused | EdgeRow::Loot(_))
 }
 
 /// Whether each of the place's lifelines is armed.
-fn all_armed<B>(slots: &[Slot<B>], places: u32, place: u32, victims: &[u32]) -> bool
+fn all_armed<B>(edge_rows: &[EdgeRow<B>], places: u32, place: u32, victims: &[u32]) -> bool
     requires few { places ≤ 64 }
     requires place { place < places }
     requires victims { All (λ v. v < places) victims.now }
-    requires slots { length slots.now ≡ places * 2 * places }
-    ensures { result ≡ true ↔ EachIn victims.now
-        (λ v. IsHeld (get_or slots.now (spec_slot_index places variant_kind.Line place v) kept.Idle)) }
+    requires edge_rows { length edge_rows.now ≡ places * 2 * places }
+    ensures { IsTrue result ↔ EachIn victims.now
+        (λ v. IsArmedRow (get_or edge_rows.now
+        (spec_edge_index places Kind.Line place v) EdgeRow.Idle)) }
 {
     for victim in victims {
-        if !is_armed(&slots[slot_index(places, Kind::Line, place, *victim)]) {
+        if !is_armed(&edge_rows[edge_index(places, Kind::Line, place, *victim)]) {
             return false;
         }
     }
     true
 }
 
-fn is_wanted_by_any<B>(slots: &[Slot<B>], places: u32, place: u32, thieves: &[u32]) -> bool
+fn is_wanted_by_any<B>(edge_rows: &[EdgeRow<B>], places: u32, place: u32, thieves: &[u32]) -> bool
     requires few { places ≤ 64 }
     requires place { place < places }
     requires thieves { All (λ t. t < places) thieves.now }
-    requires slots { length slots.now ≡ places * 2 * places }
-    ensures found { result ≡ true → WantedIn slots.now places place thieves.now }
-    ensures none { WantedIn slots.now places place thieves.now → result ≡ true }
+    requires edge_rows { length edge_rows.now ≡ places * 2 * places }
+    ensures found { result ≡ true → IsWantedIn edge_rows.now places place thieves.now }
+    ensures none { IsWantedIn edge_rows.now places place thieves.now → result ≡ true }
 {
-    is_asked_by_steals(slots, places, place) || is_asked_by_lines(slots, places, place, thieves)
+    is_asked_by_steals(edge_rows, places, place)
+        || is_asked_by_lines(edge_rows, places, place, thieves)
 }
 
 /// The thieves are the places that have a lifeline to this one.
 fn may_mint<P: Program, B: Bag<P>>(
-    seat: &Seat<B>,
-    slots: &[Slot<B>],
+    place_row: &PlaceRow<B>,
+    edge_rows: &[EdgeRow<B>],
     places: u32,
     place: u32,
     thieves: &[u32],
@@ -405,18 +294,18 @@ fn may_mint<P: Program, B: Bag<P>>(
     requires few { places ≤ 64 }
     requires place { place < places }
     requires thieves { All (λ t. t < places) thieves.now }
-    requires slots { length slots.now ≡ places * 2 * places }
-    ensures { result ≡ true ↔ MayMint B.items seat.now slots.now places place thieves.now }
+    requires edge_rows { length edge_rows.now ≡ places * 2 * places }
+    ensures { IsTrue result ↔ MayMint B.items place_row.now edge_rows.now places place thieves.now }
 {
-    works(seat)
-        && has_one(seat)
-        && seat.bag.can_split()
-        && is_wanted_by_any(slots, places, place, thieves)
+    place_row.phase == Phase::Working
+        && place_row.credit == Credit::One
+        && place_row.bag.can_split()
+        && is_wanted_by_any(edge_rows, places, place, thieves)
 }
 
 fn may_batch<P: Program, B: Bag<P>>(
-    seat: &Seat<B>,
-    slots: &[Slot<B>],
+    place_row: &PlaceRow<B>,
+    edge_rows: &[EdgeRow<B>],
     places: u32,
     place: u32,
     thieves: &[u32],
@@ -424,62 +313,81 @@ fn may_batch<P: Program, B: Bag<P>>(
     requires few { places ≤ 64 }
     requires place { place < places }
     requires thieves { All (λ t. t < places) thieves.now }
-    requires slots { length slots.now ≡ places * 2 * places }
-    requires marks { vec_len seat.now.marks ≡ 2 * places }
-    ensures { result ≡ true ↔ MayBatch B.items seat.now slots.now places place thieves.now }
+    requires edge_rows { length edge_rows.now ≡ places * 2 * places }
+    requires marks { vec_len place_row.now.marks ≡ 2 * places }
+    ensures { IsTrue result ↔ MayBatch B.items place_row.now edge_rows.now places place thieves.now }
 {
-    works(seat)
-        && has_one(seat)
-        && clear_of_steals(seat, places, place)
-        && clear_of_lines(seat, places, thieves)
-        && (!seat.bag.can_split() || !holds_request(slots, places, place, thieves))
+    place_row.phase == Phase::Working
+        && place_row.credit == Credit::One
+        && clear_of_steals(place_row, places, place)
+        && clear_of_lines(place_row, places, thieves)
+        && (!place_row.bag.can_split() || !holds_request(edge_rows, places, place, thieves))
 }
 
 /// The victims are those of the place's lifelines.
-fn may_sleep<B>(seat: &Seat<B>, slots: &[Slot<B>], places: u32, place: u32, victims: &[u32]) -> bool
+fn may_sleep<B>(
+    place_row: &PlaceRow<B>,
+    edge_rows: &[EdgeRow<B>],
+    places: u32,
+    place: u32,
+    victims: &[u32],
+) -> bool
     requires few { places ≤ 64 }
     requires place { place < places }
     requires victims { All (λ v. v < places) victims.now }
-    requires slots { length slots.now ≡ places * 2 * places }
-    ensures { result ≡ true ↔ MaySleep seat.now slots.now places place victims.now }
+    requires edge_rows { length edge_rows.now ≡ places * 2 * places }
+    ensures { IsTrue result ↔ MaySleep place_row.now edge_rows.now places place victims.now }
 {
-    idles(seat) && seat.tries == 0 && all_armed(slots, places, place, victims)
+    place_row.phase == Phase::Idle
+        && place_row.tries == 0
+        && all_armed(edge_rows, places, place, victims)
 }
 
 /// Whether the event has a case.
 pub(crate) fn is_enabled<P: Program, B: Bag<P>>(tables: &Tables<B, P::Value>, event: Event) -> bool
     requires sound { IsSound {I = P.Item} B.items (view_of tables.now) }
     requires named { NamesBelow tables.now.lines.places event }
-    ensures { Tells {I = P.Item} B.items (view_of tables.now) event (result ≡ true) }
+    ensures { HasCaseExactly {I = P.Item} B.items (view_of tables.now) event (result ≡ true) }
 {
     let lines = &tables.lines;
     let places = lines.places();
-    let slots = tables.slots.as_slice();
-    let seats = tables.seats.as_slice();
-    let seat = &seats[actor_of(event) as usize];
-    let slot = &slots[slot_of(places, event)];
+    let edge_rows = tables.edge_rows.as_slice();
+    let place_rows = tables.place_rows.as_slice();
+    let place_row = &place_rows[event.place() as usize];
+    let edge_row = &edge_rows[edge_index_of(places, event)];
     match event {
         Event::Look { place, thief, kind } => may_look(
-            seat,
+            place_row,
             is_there(lines, kind, thief, place),
             mark_index(places, kind, thief),
         ),
         Event::Batch { place } => {
-            may_batch::<P, B>(seat, slots, places, place, lines.into(place))
+            may_batch::<P, B>(place_row, edge_rows, places, place, lines.into(place))
         }
         Event::Ask {
             place,
             victim,
             kind,
-        } => may_ask(seat, slot, is_there(lines, kind, place, victim), kind),
-        Event::Deny { .. } => may_deny::<P, B>(seat, slot),
-        Event::Mint { place } => may_mint::<P, B>(seat, slots, places, place, lines.into(place)),
-        Event::Give { kind, .. } => may_give(seat, slot, kind),
-        Event::Take { victim, kind, .. } => may_take(seat, slot, victim, kind),
-        Event::Burn { .. } => may_burn(seat),
-        Event::Shrug { victim, kind, .. } => may_shrug(seat, slot, victim, kind),
-        Event::Sleep { place } => may_sleep(seat, slots, places, place, lines.out(place)),
-        Event::Leave { .. } => may_leave(seat, tables.live, tables.stop),
-        Event::Halt { code, .. } => may_halt(seat, code),
+        } => may_ask(
+            place_row,
+            edge_row,
+            is_there(lines, kind, place, victim),
+            kind,
+        ),
+        Event::Deny { .. } => may_deny::<P, B>(place_row, edge_row),
+        Event::Mint { place } => may_mint::<P, B>(
+            place_row,
+            edge_rows,
+            places,
+            place,
+            lines.into(place),
+        ),
+        Event::Give { kind, .. } => may_give(place_row, edge_row, kind),
+        Event::Take { victim, kind, .. } => may_take(place_row, edge_row, victim, kind),
+        Event::Burn { .. } => may_burn(place_row),
+        Event::Shrug { victim, kind, .. } => may_shrug(place_row, edge_row, victim, kind),
+        Event::Sleep { place } => may_sleep(place_row, edge_rows, places, place, lines.out(place)),
+        Event::Leave { .. } => may_leave(place_row, tables.live, tables.stop),
+        Event::Halt { code, .. } => may_halt(place_row, code),
     }
 }

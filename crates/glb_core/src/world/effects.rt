@@ -1,66 +1,36 @@
-//! What each event does to the seat of its place and to the slot of the edge that it names.
+//! What each event that moves and expands no items does to the row of its place and to the row of
+//! the edge that it names.
 ghost use Rattle.std.specs.Prelude.{◌≡◌, ◌+◌, ◌-◌, ◌*◌, ◌^◌, ◌<◌, ◌≤◌, vec_len};
 ghost use Rattle.std.specs.Vec.{with_item};
-ghost use Rattle.glb_core.specs.Effects.{looked};
-ghost use Rattle.glb_core.specs.declared.kinds.Phase.TheVariants as phase;
-ghost use Rattle.glb_core.specs.declared.kinds.Credit.TheVariants as credit;
-ghost use Rattle.glb_core.specs.declared.kinds.Mark.TheVariants as mark;
-ghost use Rattle.glb_core.specs.declared.world.seat.Slot.TheVariants as kept;
-ghost use Rattle.glb_core.specs.Events.{actor};
-ghost use Rattle.glb_core.specs.Effects.{live_after, stop_after};
-ghost use Rattle.glb_core.specs.Tables.{capped, mark_index as spec_mark_index, slot_index as spec_slot_index};
-ghost use Rattle.glb_core.specs.TableEffects.{NamesBelow, AsksAnother, slot_named, face_of, asks, count_denied as denied_counters, count_shrug, seat_after, slot_after, slot_shrugged};
+ghost use Rattle.glb_rules.specs.Effects.{mark_after_look};
+ghost use Rattle.glb_rules.specs.Effects.{live_after, stop_after};
+ghost use Rattle.glb_core.specs.inner.Effects.{capped};
+ghost use Rattle.glb_rules.specs.Events.{NamesBelow};
+ghost use Rattle.glb_core.specs.inner.Effects.{AsksAnother, row_state, place_row_after_ask};
+ghost use Rattle.glb_core.specs.inner.Effects.{count_denied as denied_counters, count_shrug};
+ghost use Rattle.glb_core.specs.inner.Effects.{place_row_after, edge_row_after};
+ghost use Rattle.glb_core.specs.inner.Effects.{edge_row_after_shrug};
 
-use super::seat::{Seat, Slot};
-use crate::{Credit, Edge, Event, Kind, Mark, Phase, victim};
+use super::layout::mark_index;
+use super::rows::{EdgeRow, PlaceRow};
+use crate::{Credit, Event, Kind, Mark, Phase, victim};
 use glb_stats::Counters;
 use rand_core::utils::NextWord;
 
-/// Where a place keeps the mark of an in-edge.
-pub(crate) fn mark_index(places: u32, kind: Kind, thief: u32) -> usize
-    requires places { places ≤ 64 }
-    requires thief { thief < places }
-    ensures { result ≡ spec_mark_index places kind thief }
+fn look<B>(place_row: &mut PlaceRow<B>, edge_row: &EdgeRow<B>, at: usize)
+    requires { at < vec_len place_row.old.marks }
+    ensures { place_row.new ≡ record place_row.old {
+      marks = with_item place_row.old.marks at
+          (mark_after_look (row_state edge_row.now));
+    } }
 {
-    match kind {
-        Kind::Steal => thief as usize,
-        Kind::Line => places as usize + thief as usize,
-    }
-}
-
-/// The state of an edge, without the part.
-pub(crate) fn face<B>(slot: &Slot<B>) -> Edge
-    ensures { result ≡ face_of slot.now }
-{
-    match slot {
-        Slot::Idle => Edge::Idle,
-        Slot::Asked => Edge::Asked,
-        Slot::Refused => Edge::Refused,
-        Slot::Loot(_) => Edge::Loot,
-    }
-}
-
-/// The mark that a look leaves.
-fn mark_of(edge: Edge) -> Mark
-    ensures { result ≡ looked edge }
-{
-    match edge {
-        Edge::Asked => Mark::Pending,
-        Edge::Idle | Edge::Refused | Edge::Loot => Mark::Clear,
-    }
-}
-
-fn look<B>(seat: &mut Seat<B>, slot: &Slot<B>, at: usize)
-    requires { at < vec_len seat.old.marks }
-    ensures { seat.new ≡ record seat.old { marks = with_item seat.old.marks at (looked (face_of slot.now)) } }
-{
-    seat.marks[at] = mark_of(face(slot));
+    place_row.marks[at] = edge_row.state().mark_after_look();
 }
 
 /// The place waits for an answer. A random victim is replaced by the next one.
 fn ask<B: Drop>(
-    seat: &mut Seat<B>,
-    slot: &mut Slot<B>,
+    place_row: &mut PlaceRow<B>,
+    edge_row: &mut EdgeRow<B>,
     places: u32,
     place: u32,
     asked: u32,
@@ -68,22 +38,22 @@ fn ask<B: Drop>(
 )
     requires places { 2 ≤ places }
     requires place { place < places }
-    ensures seat { seat.new ≡ asks places place asked kind seat.old }
-    ensures slot { slot.new ≡ kept.Asked }
+    ensures place_row { place_row.new ≡ place_row_after_ask places place asked kind place_row.old }
+    ensures edge_row { edge_row.new ≡ EdgeRow.Asked }
 {
-    *slot = Slot::Asked;
-    seat.phase = Phase::Waiting {
+    *edge_row = EdgeRow::Asked;
+    place_row.phase = Phase::Waiting {
         victim: asked,
         kind,
     };
     match kind {
         Kind::Steal => {
-            seat.tries = seat.tries.saturating_sub(1);
-            seat.counters.asks = seat.counters.asks.saturating_add(1);
-            seat.victim = victim(seat.words.next_word(), places, place);
+            place_row.tries = place_row.tries.saturating_sub(1);
+            place_row.counters.asks = place_row.counters.asks.saturating_add(1);
+            place_row.victim = victim(place_row.words.next_word(), places, place);
         }
         Kind::Line => {
-            seat.counters.line_asks = seat.counters.line_asks.saturating_add(1);
+            place_row.counters.line_asks = place_row.counters.line_asks.saturating_add(1);
         }
     }
 }
@@ -98,142 +68,89 @@ fn count_denied(counters: &mut Counters, kind: Kind)
 }
 
 /// The request is refused. One over a lifeline stays remembered.
-fn deny<B: Drop>(seat: &mut Seat<B>, slot: &mut Slot<B>, at: usize, kind: Kind)
-    requires { at < vec_len seat.old.marks }
-    ensures seat { seat.new ≡ record seat.old {
-      marks = with_item seat.old.marks at mark.Clear;
-      counters = denied_counters kind seat.old.counters;
+fn deny<B: Drop>(place_row: &mut PlaceRow<B>, edge_row: &mut EdgeRow<B>, at: usize, kind: Kind)
+    requires { at < vec_len place_row.old.marks }
+    ensures place_row { place_row.new ≡ record place_row.old {
+      marks = with_item place_row.old.marks at Mark.Clear;
+      counters = denied_counters kind place_row.old.counters;
     } }
-    ensures slot { slot.new ≡ kept.Refused }
+    ensures edge_row { edge_row.new ≡ EdgeRow.Refused }
 {
-    *slot = Slot::Refused;
-    seat.marks[at] = Mark::Clear;
-    count_denied(&mut seat.counters, kind);
+    *edge_row = EdgeRow::Refused;
+    place_row.marks[at] = Mark::Clear;
+    count_denied(&mut place_row.counters, kind);
 }
 
 /// The thief gives a refused request up, but for one over a lifeline.
-fn shrug<B: Drop>(seat: &mut Seat<B>, slot: &mut Slot<B>, kind: Kind)
-    ensures seat { seat.new ≡ record seat.old {
-      phase = phase.Idle;
-      counters = count_shrug kind seat.old.counters;
+fn shrug<B: Drop>(place_row: &mut PlaceRow<B>, edge_row: &mut EdgeRow<B>, kind: Kind)
+    ensures place_row { place_row.new ≡ record place_row.old {
+      phase = Phase.Idle;
+      counters = count_shrug kind place_row.old.counters;
     } }
-    ensures slot { slot.new ≡ slot_shrugged kind slot.old }
+    ensures edge_row { edge_row.new ≡ edge_row_after_shrug kind edge_row.old }
 {
-    seat.phase = Phase::Idle;
+    place_row.phase = Phase::Idle;
     match kind {
         Kind::Steal => {
-            *slot = Slot::Idle;
-            seat.counters.shrugs = seat.counters.shrugs.saturating_add(1);
+            *edge_row = EdgeRow::Idle;
+            place_row.counters.shrugs = place_row.counters.shrugs.saturating_add(1);
         }
         Kind::Line => {}
     }
 }
 
-fn sleep<B>(seat: &mut Seat<B>)
-    ensures { seat.new ≡ record seat.old {
-      phase = phase.Asleep;
-      credit = credit.Zero;
-      counters = record (seat.old.counters) { sleeps = capped (seat.old.counters.sleeps + 1) };
+fn sleep<B>(place_row: &mut PlaceRow<B>)
+    ensures { place_row.new ≡ record place_row.old {
+      phase = Phase.Asleep;
+      credit = Credit.Zero;
+      counters = record (place_row.old.counters) {
+        sleeps = capped
+            (place_row.old.counters.sleeps + 1);
+      };
     } }
 {
-    seat.phase = Phase::Asleep;
-    seat.credit = Credit::Zero;
-    seat.counters.sleeps = seat.counters.sleeps.saturating_add(1);
+    place_row.phase = Phase::Asleep;
+    place_row.credit = Credit::Zero;
+    place_row.counters.sleeps = place_row.counters.sleeps.saturating_add(1);
 }
 
 /// The effect of an event that moves and expands no items.
-pub(crate) fn effect<B: Drop>(seat: &mut Seat<B>, slot: &mut Slot<B>, places: u32, event: Event)
+pub(crate) fn effect<B: Drop>(
+    place_row: &mut PlaceRow<B>,
+    edge_row: &mut EdgeRow<B>,
+    places: u32,
+    event: Event,
+)
     requires places { places ≤ 64 }
     requires places_named { NamesBelow places event }
-    requires marks { vec_len seat.old.marks ≡ 2 * places }
+    requires marks { vec_len place_row.old.marks ≡ 2 * places }
     requires two { AsksAnother places event }
-    ensures seat { seat.new ≡ seat_after places event slot.old seat.old }
-    ensures slot { slot.new ≡ slot_after event slot.old }
+    ensures place_row { place_row.new ≡ place_row_after places event edge_row.old place_row.old }
+    ensures edge_row { edge_row.new ≡ edge_row_after event edge_row.old }
 {
     match event {
-        Event::Look { thief, kind, .. } => look(seat, slot, mark_index(places, kind, thief)),
+        Event::Look { thief, kind, .. } => look(
+            place_row,
+            edge_row,
+            mark_index(places, kind, thief),
+        ),
         Event::Ask {
             place,
             victim,
             kind,
-        } => ask(seat, slot, places, place, victim, kind),
-        Event::Deny { thief, kind, .. } => deny(seat, slot, mark_index(places, kind, thief), kind),
-        Event::Mint { .. } => seat.credit = Credit::Minted,
-        Event::Burn { .. } => seat.credit = Credit::One,
-        Event::Shrug { kind, .. } => shrug(seat, slot, kind),
-        Event::Sleep { .. } => sleep(seat),
-        Event::Leave { .. } => seat.phase = Phase::Gone,
+        } => ask(place_row, edge_row, places, place, victim, kind),
+        Event::Deny { thief, kind, .. } => deny(
+            place_row,
+            edge_row,
+            mark_index(places, kind, thief),
+            kind,
+        ),
+        Event::Mint { .. } => place_row.credit = Credit::Minted,
+        Event::Burn { .. } => place_row.credit = Credit::One,
+        Event::Shrug { kind, .. } => shrug(place_row, edge_row, kind),
+        Event::Sleep { .. } => sleep(place_row),
+        Event::Leave { .. } => place_row.phase = Phase::Gone,
         Event::Halt { .. } | Event::Batch { .. } | Event::Give { .. } | Event::Take { .. } => {}
-    }
-}
-
-/// The place whose event it is.
-pub(crate) fn actor_of(event: Event) -> u32
-    ensures { result ≡ actor event }
-{
-    match event {
-        Event::Look { place, .. }
-        | Event::Batch { place }
-        | Event::Ask { place, .. }
-        | Event::Deny { place, .. }
-        | Event::Mint { place }
-        | Event::Give { place, .. }
-        | Event::Take { place, .. }
-        | Event::Burn { place }
-        | Event::Shrug { place, .. }
-        | Event::Sleep { place }
-        | Event::Leave { place }
-        | Event::Halt { place, .. } => place,
-    }
-}
-
-/// Where the slot of an edge is.
-pub(crate) fn slot_index(places: u32, kind: Kind, thief: u32, victim: u32) -> usize
-    requires places { places ≤ 64 }
-    requires thief { thief < places }
-    requires victim { victim < places }
-    ensures { result ≡ spec_slot_index places kind thief victim }
-{
-    let row = match kind {
-        Kind::Steal => victim * 2,
-        Kind::Line => victim * 2 + 1,
-    };
-    (row * places + thief) as usize
-}
-
-/// Where the slot of the edge is that the event names. For an event without one it is that of an
-/// edge which is never
-/// there.
-pub(crate) fn slot_of(places: u32, event: Event) -> usize
-    requires places { places ≤ 64 }
-    requires places_named { NamesBelow places event }
-    ensures { result ≡ slot_named places event }
-{
-    match event {
-        Event::Look { place, thief, kind }
-        | Event::Deny { place, thief, kind }
-        | Event::Give { place, thief, kind } => slot_index(places, kind, thief, place),
-        Event::Ask {
-            place,
-            victim,
-            kind,
-        }
-        | Event::Take {
-            place,
-            victim,
-            kind,
-        }
-        | Event::Shrug {
-            place,
-            victim,
-            kind,
-        } => slot_index(places, kind, place, victim),
-        Event::Batch { place }
-        | Event::Mint { place }
-        | Event::Burn { place }
-        | Event::Sleep { place }
-        | Event::Leave { place }
-        | Event::Halt { place, .. } => slot_index(places, Kind::Steal, place, place),
     }
 }
 

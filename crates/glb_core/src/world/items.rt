@@ -1,15 +1,16 @@
-//! What the events that move or expand items do to a seat and a slot.
-ghost use Rattle.std.specs.Prelude.{◌≡◌, ◌≢◌, ℕ, ◌+◌, ◌-◌, ◌*◌, ◌^◌, ◌<◌, ◌≤◌, List, length, vec_len, replicate, min, IfOk, IfErr, OnOk, OnErr, IsPermutation};
+//! What the events that move or expand items do to the rows of a place and of an edge.
+ghost use Rattle.std.specs.Prelude.{◌≡◌, ◌≢◌, ℕ, ◌+◌, ◌-◌, ◌*◌, ◌^◌, ◌<◌, ◌≤◌, List, length};
+ghost use Rattle.std.specs.Prelude.{vec_len, replicate, min, IfOk, IfErr, OnOk, OnErr};
+ghost use Rattle.std.specs.Prelude.{IsPermutation};
 ghost use Rattle.glb_laws.specs.Bag.{KeepsFit};
 ghost use Rattle.glb_laws.specs.Expansion.{Expands};
-ghost use Rattle.glb_core.specs.Effects.{took, slept};
-ghost use Rattle.glb_core.specs.declared.kinds.Phase.TheVariants as variant_phase;
-ghost use Rattle.glb_core.specs.declared.kinds.Mark.TheVariants as variant_mark;
-ghost use Rattle.glb_core.specs.declared.world.seat.Slot.TheVariants as kept;
-ghost use Rattle.glb_core.specs.TableEffects.{IsLooted};
-ghost use Rattle.glb_core.specs.ItemEffects.{GivesPart, TakesPart, AfterBatch, SlotFits, SameSlot, count_given as given_counters, count_got as got_counters};
+ghost use Rattle.glb_core.specs.inner.Conditions.{HoldsPart};
+ghost use Rattle.glb_core.specs.inner.ItemEffects.{GivesPart, TakesPart, AfterBatch, SameEdge};
+ghost use Rattle.glb_core.specs.inner.ItemEffects.{count_given as given_counters};
+ghost use Rattle.glb_core.specs.inner.ItemEffects.{count_got as got_counters};
+ghost use Rattle.glb_core.specs.Standing.{EdgeRowFits};
 
-use super::seat::{Seat, Slot};
+use super::rows::{EdgeRow, PlaceRow};
 use crate::{Credit, Kind, Mark, Phase};
 use glb_laws::{Bag, Monoid, NoMemory, Program, Stopped};
 use glb_stats::Counters;
@@ -36,150 +37,138 @@ fn count_got(counters: &mut Counters, kind: Kind, units: u64, woken: u64)
     counters.wakes = counters.wakes.saturating_add(woken);
 }
 
-/// Splits the bag, and lays the part into the slot.
+/// Splits the bag, and lays the part into the row of the edge.
 pub(crate) fn give_part<P: Program, B: Bag<P>>(
-    seat: &mut Seat<B>,
-    slot: &mut Slot<B>,
+    place_row: &mut PlaceRow<B>,
+    edge_row: &mut EdgeRow<B>,
     at: usize,
     kind: Kind,
 ) -> Result<(), NoMemory>
-    requires two { 1 < length (B.items seat.old.bag) }
-    requires at { at < vec_len seat.old.marks }
-    ensures given { OnOk result (GivesPart B.items kind at seat.old seat.new slot.new) }
-    ensures seat_stays { OnErr result (seat.new ≡ record seat.old { bag = seat.new.bag }) }
-    ensures bag_stays { OnErr result (B.items seat.new.bag ≡ B.items seat.old.bag) }
-    ensures slot_stays { OnErr result (slot.new ≡ slot.old) }
-    ensures fits { KeepsFit (B.fits seat.old.bag) (B.fits seat.new.bag) }
-    ensures slot_fits { (p : P) → B.fits seat.old.bag p → SlotFits B.fits p slot.old
-        → SlotFits B.fits p slot.new }
+    requires two { 1 < length (B.items place_row.old.bag) }
+    requires at { at < vec_len place_row.old.marks }
+    ensures given { OnOk result
+        (GivesPart B.items kind at place_row.old place_row.new edge_row.new) }
+    ensures place_row_stays { OnErr result
+        (place_row.new ≡ record place_row.old { bag = place_row.new.bag }) }
+    ensures bag_stays { OnErr result (B.items place_row.new.bag ≡ B.items place_row.old.bag) }
+    ensures edge_row_stays { OnErr result (edge_row.new ≡ edge_row.old) }
+    ensures fits { KeepsFit (B.fits place_row.old.bag) (B.fits place_row.new.bag) }
+    ensures edge_row_fits { (p : P) → B.fits place_row.old.bag p → EdgeRowFits B.fits p edge_row.old
+        → EdgeRowFits B.fits p edge_row.new }
 {
-    match seat.bag.split()? {
+    match place_row.bag.split()? {
         Some(part) => {
-            count_given(&mut seat.counters, kind, part.len());
-            *slot = Slot::Loot(part);
-            seat.marks[at] = Mark::Clear;
-            seat.credit = Credit::One;
+            count_given(&mut place_row.counters, kind, part.len());
+            *edge_row = EdgeRow::Loot(part);
+            place_row.marks[at] = Mark::Clear;
+            place_row.credit = Credit::One;
             Ok(())
         }
         None => unreachable!(),
     }
 }
 
-/// The credit of a place that took a part.
-fn credit_taken(credit: Credit) -> Credit
-    ensures { result ≡ took credit }
-{
-    match credit {
-        Credit::Zero => Credit::One,
-        Credit::One => Credit::Taken,
-        Credit::Minted | Credit::Taken => credit,
-    }
-}
-
-/// 1 for a place that a part wakes.
-fn woken(phase: Phase) -> u64
-    ensures { result ≡ slept phase }
-{
-    match phase {
-        Phase::Asleep => 1,
-        _ => 0,
-    }
-}
-
-/// Merges the part from the slot into the bag.
+/// Merges the part from the row of the edge into the bag.
 pub(crate) fn take_part<P: Program, B: Bag<P>>(
-    seat: &mut Seat<B>,
-    slot: &mut Slot<B>,
+    place_row: &mut PlaceRow<B>,
+    edge_row: &mut EdgeRow<B>,
     kind: Kind,
 ) -> Result<(), NoMemory>
-    requires loot { IsLooted slot.old }
-    requires fits { (p : P) × (B.fits seat.old.bag p × SlotFits B.fits p slot.old) }
-    ensures taken { OnOk result (TakesPart B.items kind seat.old seat.new slot.old) }
-    ensures slot { OnOk result (slot.new ≡ kept.Idle) }
-    ensures seat_stays { OnErr result (seat.new ≡ record seat.old { bag = seat.new.bag }) }
-    ensures bag_stays { OnErr result (B.items seat.new.bag ≡ B.items seat.old.bag) }
-    ensures slot_stays { OnErr result (SameSlot B.items slot.old slot.new) }
-    ensures fits { KeepsFit (B.fits seat.old.bag) (B.fits seat.new.bag) }
-    ensures slot_fits { (p : P) → SlotFits B.fits p slot.old → SlotFits B.fits p slot.new }
+    requires loot { HoldsPart edge_row.old }
+    requires fits { (p : P) × (B.fits place_row.old.bag p × EdgeRowFits B.fits p edge_row.old) }
+    ensures taken { OnOk result (TakesPart B.items kind place_row.old place_row.new edge_row.old) }
+    ensures edge_row { OnOk result (edge_row.new ≡ EdgeRow.Idle) }
+    ensures place_row_stays { OnErr result
+        (place_row.new ≡ record place_row.old { bag = place_row.new.bag }) }
+    ensures bag_stays { OnErr result (B.items place_row.new.bag ≡ B.items place_row.old.bag) }
+    ensures edge_row_stays { OnErr result (SameEdge B.items edge_row.old edge_row.new) }
+    ensures fits { KeepsFit (B.fits place_row.old.bag) (B.fits place_row.new.bag) }
+    ensures edge_row_fits { (p : P) → EdgeRowFits B.fits p edge_row.old
+        → EdgeRowFits B.fits p edge_row.new }
 {
-    match mem::replace(slot, Slot::Idle) {
-        Slot::Loot(part) => {
+    match mem::replace(edge_row, EdgeRow::Idle) {
+        EdgeRow::Loot(part) => {
             let units = part.len();
-            match seat.bag.merge(part) {
+            match place_row.bag.merge(part) {
                 Ok(()) => {
-                    count_got(&mut seat.counters, kind, units, woken(seat.phase));
-                    seat.phase = Phase::Working;
-                    seat.credit = credit_taken(seat.credit);
+                    count_got(
+                        &mut place_row.counters,
+                        kind,
+                        units,
+                        place_row.phase.wake_count(),
+                    );
+                    place_row.phase = Phase::Working;
+                    place_row.credit = place_row.credit.after_take();
                     Ok(())
                 }
                 Err((no_memory, part)) => {
-                    *slot = Slot::Loot(part);
+                    *edge_row = EdgeRow::Loot(part);
                     Err(no_memory)
                 }
             }
         }
-        Slot::Idle | Slot::Asked | Slot::Refused => unreachable!(),
+        EdgeRow::Idle | EdgeRow::Asked | EdgeRow::Refused => unreachable!(),
     }
 }
 
 fn forget_marks(marks: &mut [Mark])
-    ensures { marks.new ≡ replicate (length marks.old) variant_mark.Unseen }
+    ensures { marks.new ≡ replicate (length marks.old) Mark.Unseen }
 {
     for mark in marks.iter_mut() {
         *mark = Mark::Unseen;
     }
 }
 
-/// The seat after a batch. A place whose bag is empty has its tries again.
-fn settle<P: Program, B: Bag<P>>(seat: &mut Seat<B>, tries: u32, count: u64)
-    requires { seat.old.phase ≡ variant_phase.Working }
-    ensures settled { AfterBatch B.items tries count seat.old seat.new }
-    ensures bag { seat.new.bag ≡ seat.old.bag }
+/// The row of a place after a batch. A place whose bag is empty has its tries again.
+fn settle<P: Program, B: Bag<P>>(place_row: &mut PlaceRow<B>, tries: u32, count: u64)
+    requires { place_row.old.phase ≡ Phase.Working }
+    ensures settled { AfterBatch B.items tries count place_row.old place_row.new }
+    ensures bag { place_row.new.bag ≡ place_row.old.bag }
 {
-    if seat.bag.len() == 0 {
-        seat.phase = Phase::Idle;
-        seat.tries = tries;
+    if place_row.bag.len() == 0 {
+        place_row.phase = Phase::Idle;
+        place_row.tries = tries;
     }
-    forget_marks(&mut seat.marks);
-    seat.counters.items = seat.counters.items.saturating_add(count);
+    forget_marks(&mut place_row.marks);
+    place_row.counters.items = place_row.counters.items.saturating_add(count);
 }
 
-/// Expands up to `most` items of the bag, and combines their values into `value`. Where memory
-/// runs out before the
-/// first one, the seat stays.
+/// Expands up to `most` items of the bag, and combines their values into `value`. Where memory runs
+/// out before the first one, the row stays.
 pub(crate) fn work<P: Program, B: Bag<P>>(
-    seat: &mut Seat<B>,
+    place_row: &mut PlaceRow<B>,
     program: &P,
     most: u64,
     tries: u32,
     value: &mut P::Value,
 ) -> Result<u64, Stopped>
-    requires working { seat.old.phase ≡ variant_phase.Working }
-    requires items { 0 < length (B.items seat.old.bag) }
+    requires working { place_row.old.phase ≡ Phase.Working }
+    requires items { 0 < length (B.items place_row.old.bag) }
     requires some { 1 ≤ most }
-    requires fits { B.fits seat.old.bag program.now }
+    requires fits { B.fits place_row.old.bag program.now }
     ensures done { IfOk result
         (λ k. Expands (P.children program.now) (P.value program.now) P.Value.combine
-        (B.items seat.old.bag) value.old k (B.items seat.new.bag) value.new) }
+        (B.items place_row.old.bag) value.old k (B.items place_row.new.bag) value.new) }
     ensures whole { IfOk result
-        (λ k. (1 ≤ k) × (k ≤ most) × (k < most → length (B.items seat.new.bag) ≡ 0)) }
-    ensures settled { IfOk result (λ k. AfterBatch B.items tries k seat.old seat.new) }
+        (λ k. (1 ≤ k) × (k ≤ most) × (k < most → length (B.items place_row.new.bag) ≡ 0)) }
+    ensures settled { IfOk result (λ k. AfterBatch B.items tries k place_row.old place_row.new) }
     ensures stopped { IfErr result
         (λ e. Expands (P.children program.now) (P.value program.now) P.Value.combine
-        (B.items seat.old.bag) value.old e.done (B.items seat.new.bag) value.new) }
+        (B.items place_row.old.bag) value.old e.done (B.items place_row.new.bag) value.new) }
     ensures cut { IfErr result
-        (λ e. (e.done < most) × (1 ≤ e.done → AfterBatch B.items tries e.done seat.old seat.new)
-        × (e.done ≡ 0 → seat.new ≡ record seat.old { bag = seat.new.bag })) }
-    ensures fits { KeepsFit (B.fits seat.old.bag) (B.fits seat.new.bag) }
+        (λ e. (e.done < most) × (0 < length (B.items place_row.new.bag)) ×
+        (1 ≤ e.done → AfterBatch B.items tries e.done place_row.old place_row.new)
+        × (e.done ≡ 0 → place_row.new ≡ record place_row.old { bag = place_row.new.bag })) }
+    ensures fits { KeepsFit (B.fits place_row.old.bag) (B.fits place_row.new.bag) }
 {
-    match seat.bag.process(program, most, value) {
+    match place_row.bag.process(program, most, value) {
         Ok(count) => {
-            settle::<P, B>(seat, tries, count);
+            settle::<P, B>(place_row, tries, count);
             Ok(count)
         }
         Err(stopped) => {
             if stopped.done > 0 {
-                settle::<P, B>(seat, tries, stopped.done);
+                settle::<P, B>(place_row, tries, stopped.done);
             }
             Err(stopped)
         }

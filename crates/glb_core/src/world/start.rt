@@ -1,32 +1,30 @@
 //! The tables of a world at the start. All memory is taken before a bag is moved.
-ghost use Rattle.std.specs.Prelude.{◌≡◌, ◌≢◌, ℕ, ◌+◌, ◌*◌, ◌^◌, ◌<◌, ◌≤◌, Bool, not, List, [], map, length, get_or, replicate, vec_len, IfOk, OnOk, ◌++◌};
+ghost use Rattle.std.specs.Prelude.{◌≡◌, ◌≢◌, ℕ, ◌+◌, ◌*◌, ◌^◌, ◌<◌, ◌≤◌, Bool, not, List, [], map};
+ghost use Rattle.std.specs.Prelude.{length, get_or, replicate, vec_len, IfOk, OnOk, ◌++◌};
 ghost use Rattle.std.specs.List.{range_with_len};
-ghost use Rattle.glb_cube.specs.Lines.{IsCube, has_number, outs_of};
-ghost use Rattle.glb_core.specs.Sums.{sum_to};
-ghost use Rattle.glb_core.specs.Setups.{IsWithinLimits, has_items, bit, tries_of as spec_tries_of};
-ghost use Rattle.glb_core.specs.History.{first_phase, first_credit};
-ghost use Rattle.glb_core.specs.declared.kinds.Phase.TheVariants as variant_phase;
-ghost use Rattle.glb_core.specs.declared.kinds.Credit.TheVariants as variant_credit;
-ghost use Rattle.glb_core.specs.declared.kinds.Mark.TheVariants as variant_mark;
-ghost use Rattle.glb_core.specs.declared.kinds.Kind.TheVariants as variant_kind;
-ghost use Rattle.glb_core.specs.declared.world.seat.Seat.{Seat};
-ghost use Rattle.glb_core.specs.declared.world.seat.Slot.TheVariants as kept;
-ghost use Rattle.glb_core.specs.Tables.{ShowsPart, FirstSlots, FirstSeats, FirstTables, FirstVictim, AllAsleep, seated, first_part, first_slot};
+ghost use Rattle.glb_cube.specs.Lines.{outs_of};
+ghost use Rattle.glb_laws.specs.Numbers.{has_number};
+ghost use Rattle.glb_laws.specs.Sums.{sum_to};
+ghost use Rattle.glb_rules.specs.Setups.{IsWithinLimits, has_items, bit, tries_of as spec_tries_of};
+ghost use Rattle.glb_core.specs.declared.world.rows.PlaceRow.{PlaceRow};
+ghost use Rattle.glb_core.specs.Tables.{ShowsLocal};
+ghost use Rattle.glb_core.specs.inner.Start.{FirstEdgeRows, FirstPlaceRows, FirstTables};
+ghost use Rattle.glb_core.specs.inner.Start.{AllAsleep, with_bag};
+ghost use Rattle.glb_rules.specs.History.{first_local};
+ghost use Rattle.glb_core.specs.inner.Start.{first_edge_row};
 
 use super::conditions::is_line;
-use super::events::tries_of;
-use super::seat::{Seat, Slot};
+use super::rows::{EdgeRow, PlaceRow};
 use super::tables::Tables;
-use crate::{Credit, Mark, Params, Phase, victim};
+use crate::{Credit, Mark, Params, Phase, first_victim, tries_of};
 use glb_cube::{Lines, cube};
 use glb_laws::{Bag, Monoid, NoMemory, Program};
 use glb_stats::Counters;
-use rand_core::utils::NextWord;
 use rand_pcg::Pcg32;
 use std::alloc::Global;
 
 fn unseen_marks(alloc: Global, count: u32) -> Result<Vec<Mark>, NoMemory>
-    ensures { IfOk result (λ v. v.items ≡ replicate count variant_mark.Unseen) }
+    ensures { IfOk result (λ v. v.items ≡ replicate count Mark.Unseen) }
 {
     let mut marks = Vec::new(alloc);
     for _i in 0..count {
@@ -35,74 +33,47 @@ fn unseen_marks(alloc: Global, count: u32) -> Result<Vec<Mark>, NoMemory>
     Ok(marks)
 }
 
-const NO_COUNTERS: Counters = Counters {
-    items: 0,
-    asks: 0,
-    shrugs: 0,
-    denied: 0,
-    given: 0,
-    got: 0,
-    line_asks: 0,
-    line_given: 0,
-    line_got: 0,
-    sent_units: 0,
-    got_units: 0,
-    sleeps: 0,
-    wakes: 0,
-};
-
-/// The first random victim, which is drawn only where there is another place.
-fn first_victim(words: &mut Pcg32, places: u32, place: u32) -> u32
-    requires { place < places }
-    ensures { FirstVictim places place words.old words.new result }
-{
-    if places > 1 {
-        victim(words.next_word(), places, place)
-    } else {
-        0
-    }
-}
-
-/// The seat of a place without items.
-fn first_seat<P: Program, B: Bag<P>>(
+/// The row of a place without items.
+fn first_place_row<P: Program, B: Bag<P>>(
     alloc: Global,
     program: &P,
     params: &Params,
     place: u32,
-) -> Result<Seat<B>, NoMemory>
+) -> Result<PlaceRow<B>, NoMemory>
     requires limits { IsWithinLimits params.now }
     requires place { place < params.now.places }
-    ensures { IfOk result (λ r. ShowsPart B.items params.now.seed params.now.places place r
-        (first_part (spec_tries_of params.now) [])) }
+    ensures { IfOk result (λ r. ShowsLocal B.items params.now.seed params.now.places place r
+        (first_local (spec_tries_of params.now) [])) }
 {
     let marks = unseen_marks(alloc, params.places * 2)?;
     let mut words = Pcg32::new(params.seed, u64::from(place));
     let victim = first_victim(&mut words, params.places, place);
-    Ok(Seat {
+    Ok(PlaceRow {
         phase: Phase::Asleep,
         credit: Credit::Zero,
         tries: tries_of(params),
         bag: B::empty(alloc, program),
         marks,
-        counters: NO_COUNTERS,
+        counters: Counters::ZERO,
         words,
         victim,
     })
 }
 
-fn first_seats<P: Program, B: Bag<P>>(
+fn first_place_rows<P: Program, B: Bag<P>>(
     alloc: Global,
     program: &P,
     params: &Params,
-) -> Result<Vec<Seat<B>>, NoMemory>
+) -> Result<Vec<PlaceRow<B>>, NoMemory>
     requires limits { IsWithinLimits params.now }
-    ensures { IfOk result (λ v. FirstSeats B.items params.now (λ _. []) params.now.places v.items) }
+    ensures { IfOk result (λ v. FirstPlaceRows B.items params.now
+        (λ _. []) params.now.places v.items) }
 {
-    let mut seats = Vec::new(alloc);
+    let mut place_rows = Vec::new(alloc);
     for place in 0..params.places {
-        seats.push(first_seat::<P, B>(alloc, program, params, place)?)?;
+        place_rows.push(first_place_row::<P, B>(alloc, program, params, place)?)?;
     }
-    Ok(seats)
+    Ok(place_rows)
 }
 
 fn is_empty<P: Program, B: Bag<P>>(bag: &B) -> bool
@@ -118,62 +89,63 @@ fn is_awake<P: Program, B: Bag<P>>(bags: &[B], place: u32) -> bool
     !is_empty::<P, B>(&bags[place as usize])
 }
 
-/// The slot of a lifeline at the start.
-fn slot_of_line<B>(awake: bool, there: bool) -> Slot<B>
-    ensures { result ≡ first_slot awake there }
+/// The row of a lifeline at the start.
+fn row_of_line<B>(awake: bool, there: bool) -> EdgeRow<B>
+    ensures { result ≡ first_edge_row awake there }
 {
     if !awake && there {
-        Slot::Refused
+        EdgeRow::Refused
     } else {
-        Slot::Idle
+        EdgeRow::Idle
     }
 }
 
-fn push_steals<B: Drop>(slots: &mut Vec<Slot<B>>, places: u32) -> Result<(), NoMemory>
-    ensures { OnOk result (slots.new.items ≡ slots.old.items ++ replicate places kept.Idle) }
+fn push_steals<B: Drop>(edge_rows: &mut Vec<EdgeRow<B>>, places: u32) -> Result<(), NoMemory>
+    ensures { OnOk result (edge_rows.new.items ≡ edge_rows.old.items
+        ++ replicate places EdgeRow.Idle) }
 {
     for _thief in 0..places {
-        slots.push(Slot::Idle)?;
+        edge_rows.push(EdgeRow::Idle)?;
     }
     Ok(())
 }
 
 /// The lifelines to one victim.
 fn push_lines<P: Program, B: Bag<P>>(
-    slots: &mut Vec<Slot<B>>,
+    edge_rows: &mut Vec<EdgeRow<B>>,
     lines: &Lines,
     bags: &[B],
     victim: u32,
 ) -> Result<(), NoMemory>
     requires { length bags.now ≡ lines.now.places }
-    ensures { OnOk result (slots.new.items ≡ slots.old.items ++ map
-        (λ t. first_slot (has_items (get_or (map B.items bags.now) t []))
+    ensures { OnOk result (edge_rows.new.items ≡ edge_rows.old.items ++ map
+        (λ t. first_edge_row (has_items (get_or (map B.items bags.now) t []))
         (has_number victim (outs_of lines.now t)))
         (range_with_len 0 lines.now.places)) }
 {
     for thief in 0..lines.places() {
         let awake = is_awake::<P, B>(bags, thief);
-        slots.push(slot_of_line(awake, is_line(lines, thief, victim)))?;
+        edge_rows.push(row_of_line(awake, is_line(lines, thief, victim)))?;
     }
     Ok(())
 }
 
-fn first_slots<P: Program, B: Bag<P>>(
+fn first_edge_rows<P: Program, B: Bag<P>>(
     alloc: Global,
     lines: &Lines,
     bags: &[B],
-) -> Result<Vec<Slot<B>>, NoMemory>
+) -> Result<Vec<EdgeRow<B>>, NoMemory>
     requires { length bags.now ≡ lines.now.places }
-    ensures { IfOk result (λ v. FirstSlots lines.now
+    ensures { IfOk result (λ v. FirstEdgeRows lines.now
         (λ p. has_items (get_or (map B.items bags.now) p [])) lines.now.places
         lines.now.places v.items) }
 {
-    let mut slots = Vec::new(alloc);
+    let mut edge_rows = Vec::new(alloc);
     for victim in 0..lines.places() {
-        push_steals(&mut slots, lines.places())?;
-        push_lines::<P, B>(&mut slots, lines, bags, victim)?;
+        push_steals(&mut edge_rows, lines.places())?;
+        push_lines::<P, B>(&mut edge_rows, lines, bags, victim)?;
     }
-    Ok(slots)
+    Ok(edge_rows)
 }
 
 fn one_if(holds: bool) -> u64
@@ -201,7 +173,7 @@ fn no_counters(alloc: Global, places: u32) -> Result<Vec<Counters>, NoMemory>
 {
     let mut counters = Vec::new(alloc);
     for _place in 0..places {
-        counters.push(NO_COUNTERS)?;
+        counters.push(Counters::ZERO)?;
     }
     Ok(counters)
 }
@@ -221,15 +193,15 @@ pub(crate) fn make<P: Program, B: Bag<P>>(
     ensures report { IfOk result (λ t. vec_len t.1 ≡ params.now.places) }
 {
     let lines = cube(alloc, params.places, params.base)?;
-    let slots = first_slots::<P, B>(alloc, &lines, bags)?;
-    let seats = first_seats::<P, B>(alloc, program, params)?;
+    let edge_rows = first_edge_rows::<P, B>(alloc, &lines, bags)?;
+    let place_rows = first_place_rows::<P, B>(alloc, program, params)?;
     let report = no_counters(alloc, params.places)?;
     Ok((
         Tables {
             lines,
             params: *params,
-            seats,
-            slots,
+            place_rows,
+            edge_rows,
             live: count_awake::<P, B>(bags, params.places),
             stop: 0,
             total: 0,
@@ -239,30 +211,30 @@ pub(crate) fn make<P: Program, B: Bag<P>>(
     ))
 }
 
-/// Lays a bag into a seat that has none yet.
-fn seat_with<P: Program, B: Bag<P>>(seat: &mut Seat<B>, bag: B)
-    requires phase { seat.old.phase ≡ variant_phase.Asleep }
-    requires credit { seat.old.credit ≡ variant_credit.Zero }
-    ensures { seat.new ≡ seated B.items bag seat.old }
+/// Lays a bag into the row of a place that has none yet.
+fn give_bag<P: Program, B: Bag<P>>(place_row: &mut PlaceRow<B>, bag: B)
+    requires phase { place_row.old.phase ≡ Phase.Asleep }
+    requires credit { place_row.old.credit ≡ Credit.Zero }
+    ensures { place_row.new ≡ with_bag B.items bag place_row.old }
 {
     if !is_empty::<P, B>(&bag) {
-        seat.phase = Phase::Working;
-        seat.credit = Credit::One;
+        place_row.phase = Phase::Working;
+        place_row.credit = Credit::One;
     }
-    seat.bag = bag;
+    place_row.bag = bag;
 }
 
-/// Lays the bags into the seats.
-pub(crate) fn fill<P: Program, B: Bag<P>>(seats: &mut Vec<Seat<B>>, bags: Vec<B>)
-    requires number { length seats.old.items ≡ length bags.items }
-    requires asleep { AllAsleep seats.old.items }
-    ensures number { length seats.new.items ≡ length seats.old.items }
-    ensures seats { (i : ℕ) (d : Seat B) (e : B) → i < length bags.items →
-        get_or seats.new.items i d
-        ≡ seated B.items (get_or bags.items i e) (get_or seats.old.items i d) }
+/// Lays the bags into the rows of their places.
+pub(crate) fn fill<P: Program, B: Bag<P>>(place_rows: &mut Vec<PlaceRow<B>>, bags: Vec<B>)
+    requires number { length place_rows.old.items ≡ length bags.items }
+    requires asleep { AllAsleep place_rows.old.items }
+    ensures number { length place_rows.new.items ≡ length place_rows.old.items }
+    ensures place_rows { (i : ℕ) (d : PlaceRow B) (e : B) → i < length bags.items →
+        get_or place_rows.new.items i d
+        ≡ with_bag B.items (get_or bags.items i e) (get_or place_rows.old.items i d) }
 {
     let mut bags = bags;
     while let Some(bag) = bags.pop() {
-        seat_with::<P, B>(&mut seats[bags.len()], bag);
+        give_bag::<P, B>(&mut place_rows[bags.len()], bag);
     }
 }

@@ -1,6 +1,6 @@
 use Rattle.std.proofs.Common.{◌≡◌, drop}
 use Rattle.std.specs.Option.{option_or}
-use Rattle.glb_core.specs.Decision.{first, has_loot, is_idle}
+use Rattle.glb_rules.specs.Decision.{first, has_loot, is_idle}
 use Rattle.glb_core.proofs.decision.answers_of.Given as goal
 
 abbrev pub invariant-loop-line : goal.invariant-loop-line

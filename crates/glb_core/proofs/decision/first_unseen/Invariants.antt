@@ -1,5 +1,5 @@
 use Rattle.std.proofs.Common.{◌≡◌, drop}
-use Rattle.glb_core.specs.Decision.{first, is_unseen}
+use Rattle.glb_rules.specs.Decision.{first, is_unseen}
 use Rattle.glb_core.proofs.decision.first_unseen.Given as goal
 
 abbrev pub invariant-loop-edge : goal.invariant-loop-edge

@@ -1,6 +1,6 @@
 use Rattle.std.proofs.Common.{◌≡◌, drop}
-use Rattle.glb_core.specs.Decision.{first, wants}
+use Rattle.glb_rules.specs.Decision.{first, is_wanted}
 use Rattle.glb_core.proofs.decision.first_wanting.Given as goal
 
 abbrev pub invariant-loop-edge : goal.invariant-loop-edge
-invariant-loop-edge l = record { rest : first wants (drop l.edge-index l.ins) ≡ first wants l.ins }
+invariant-loop-edge l = record { rest : first is_wanted (drop l.edge-index l.ins) ≡ first is_wanted l.ins }

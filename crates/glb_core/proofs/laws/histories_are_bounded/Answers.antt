@@ -1,4 +1,5 @@
-use Rattle.glb_core.proofs.EndFacts.{run_bounded, run_bounded_on}
+use Rattle.glb_rules.proofs.Bound.Runs.{run_bounded}
+use Rattle.glb_core.proofs.Ends.Runs.{run_bounded_on}
 use Rattle.glb_core.proofs.laws.histories_are_bounded.Goals as goal
 
 pub returns-clause-done : goal.returns-clause-done

@@ -1,4 +1,4 @@
-use Rattle.glb_core.proofs.SetupFacts.{proper, connected}
+use Rattle.glb_core.proofs.Lifelines.Setups.{proper, connected}
 use Rattle.glb_core.proofs.laws.lifelines_give_a_setup.Goals as goal
 
 pub returns-clause-proper : goal.returns-clause-proper

@@ -1,4 +1,4 @@
-use Rattle.glb_core.proofs.EndFacts.{runs_end}
+use Rattle.glb_core.proofs.Ends.Runs.{runs_end}
 use Rattle.glb_core.proofs.laws.runs_end.Goals as goal
 
 pub returns : goal.returns

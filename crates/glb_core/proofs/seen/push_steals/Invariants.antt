@@ -1,5 +1,6 @@
 use Rattle.std.proofs.Common.{◌≡◌, ◌++◌, ◌==◌, not}
-use Rattle.glb_core.specs.Sight.{each_below, first_steal_in}
+use Rattle.glb_rules.specs.Sight.{each_below}
+use Rattle.glb_core.specs.Seen.{first_steal_in}
 use Rattle.glb_core.proofs.seen.push_steals.Given as goal
 
 abbrev pub invariant-loop-thief : goal.invariant-loop-thief

@@ -1,5 +1,5 @@
 use Rattle.std.proofs.Common.{◌≡◌, ◌++◌, map, drop}
-use Rattle.glb_core.specs.Sight.{first_line_out}
+use Rattle.glb_core.specs.Seen.{first_line_out}
 use Rattle.glb_core.proofs.seen.refused_lines.Given as goal
 
 abbrev pub invariant-loop-victim : goal.invariant-loop-victim

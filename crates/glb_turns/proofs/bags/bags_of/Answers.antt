@@ -1,4 +1,5 @@
-use Rattle.std.proofs.Common.{◌≡◌, ◌∙◌, ◌++◌, ◌∷◌, [], All, map, get_or, sym, subst, ap, arith, length, append_assoc}
+use Rattle.std.proofs.Common.{◌≡◌, ◌∙◌, ◌++◌, ◌∷◌, [], All, map, get_or, sym, subst, ap, arith}
+use Rattle.std.proofs.Common.{length, append_assoc}
 use Rattle.std.specs.List.Sorted.{IsPermutation}
 use Rattle.std.proofs.lemmas.List.Elements.{All-push}
 use Rattle.glb_turns.proofs.BagFacts.{Matches, matches_more, matches_length, matches_at, ended_list}

@@ -1,7 +1,9 @@
 use Rattle.std.proofs.Common.{subst, ap, refl, arith}
-use Rattle.glb_core.specs.World.{Setup}
-use Rattle.glb_core.specs.TableEffects.{NamesBelow}
-use Rattle.glb_turns.proofs.StepFacts.{found_enabled, none_found, leads_few, leads_played, leads_turn, failed_played, failed_few}
+use Rattle.glb_cube.specs.Lines.{Cube}
+use Rattle.glb_rules.specs.World.{Setup}
+use Rattle.glb_rules.specs.Events.{NamesBelow}
+use Rattle.glb_turns.proofs.StepFacts.{found_enabled, none_found, leads_few, leads_played}
+use Rattle.glb_turns.proofs.StepFacts.{leads_turn, failed_played, failed_few}
 use Rattle.glb_turns.proofs.driver.turn.Goals as goal
 
 pub returns-in-None-clause-turned : goal.returns-in-None-clause-turned
@@ -13,9 +15,9 @@ returns-in-None-clause-turned g c = λ s w stands led. (
 
 pub step-requires-clause-named : goal.step-requires-clause-named
 step-requires-clause-named g c =
-    let s = c.requires.played.0 in
-    let w = c.requires.played.1 in
-    let stands = c.requires.played.2 in
+    let s = c.requires.in_play.played.0 in
+    let w = c.requires.in_play.played.1 in
+    let stands = c.requires.in_play.played.2 in
     let found = c.in-Some.ensures.finds s w stands in
     let enabled =
     found_enabled c.args.world.now.params.seed s w stands.proper stands.lawful c.args.number
@@ -26,9 +28,9 @@ step-requires-clause-named g c =
 
 pub unreachable-requires : goal.unreachable-requires
 unreachable-requires g c =
-    let s = c.requires.played.0 in
-    let w = c.requires.played.1 in
-    let stands = c.requires.played.2 in
+    let s = c.requires.in_play.played.0 in
+    let w = c.requires.in_play.played.1 in
+    let stands = c.requires.in_play.played.2 in
     let found = c.in-Some.ensures.finds s w stands in
     let enabled =
     found_enabled c.args.world.now.params.seed s w stands.proper stands.lawful c.args.number
@@ -37,20 +39,26 @@ unreachable-requires g c =
     let fault = rw c.in-Err-NotEnabled.field-0-is at c.in-Err-NotEnabled.ensures.fault in
     fault.0 s w stands enabled.1
 
-pub returns-in-Ok-clause-played : goal.returns-in-Ok-clause-played
-returns-in-Ok-clause-played g c =
-    let s = c.requires.played.0 in
-    let w = c.requires.played.1 in
-    let stands = c.requires.played.2 in
+pub returns-in-Ok-clause-in_play : goal.returns-in-Ok-clause-in_play
+returns-in-Ok-clause-in_play g c =
+    let s = c.requires.in_play.played.0 in
+    let w = c.requires.in_play.played.1 in
+    let stands = c.requires.in_play.played.2 in
     let found = c.in-Some.ensures.finds s w stands in
-    leads_played _ _ _ _ _ s w _ _ stands c.in-Some.found.1 _ c.requires.played.3 c.args.number
-    c.in-Some.found.0 found (c.in-Ok.ensures.step s w stands).0
+    let played = leads_played _ _ _ _ _ s w _ _ stands c.in-Some.found.1 _ c.requires.in_play.played.3 c.args.number
+    c.in-Some.found.0 found (c.in-Ok.ensures.step s w stands).0 in
+    record {
+      many = omega (arith, c.step.auto.watches, c.requires.in_play.many, ap (λ (x : Cube). x.places) c.in-Ok.ensures.same.cube);
+      watched = c.in-Ok.ensures.watches;
+      played = played;
+      fit = c.in-Ok.ensures.fits;
+    }
 
 pub returns-in-Ok-clause-most : goal.returns-in-Ok-clause-most
 returns-in-Ok-clause-most g c =
-    let s = c.requires.played.0 in
-    let w = c.requires.played.1 in
-    let stands = c.requires.played.2 in
+    let s = c.requires.in_play.played.0 in
+    let w = c.requires.in_play.played.1 in
+    let stands = c.requires.in_play.played.2 in
     let few =
     leads_few _ _ _ _ _ s w _ _ stands c.in-Some.found.1 _ (c.in-Ok.ensures.step s w stands).0
     in
@@ -64,20 +72,33 @@ returns-in-Ok-clause-turned g c = λ s w stands led.
     leads_turn _ _ _ _ _ s w _ _ stands c.in-Some.found.1 _ led c.args.number c.in-Some.found.0 found
     leads.0 leads.1
 
-pub returns-in-Err-NoMemory-clause-played : goal.returns-in-Err-NoMemory-clause-played
-returns-in-Err-NoMemory-clause-played g c =
-    let s = c.requires.played.0 in
-    let w = c.requires.played.1 in
-    let stands = c.requires.played.2 in
+pub returns-in-Err-NoMemory-clause-in_play : goal.returns-in-Err-NoMemory-clause-in_play
+returns-in-Err-NoMemory-clause-in_play g c =
+    let s = c.requires.in_play.played.0 in
+    let w = c.requires.in_play.played.1 in
+    let stands = c.requires.in_play.played.2 in
     let found = c.in-Some.ensures.finds s w stands in
-    failed_played _ _ _ _ _ s w _ _ stands c.requires.played.3 c.args.number c.in-Some.found.0
-    c.in-Some.found.1 found (rw c.in-Err-NoMemory.field-0-is at c.in-Err-NoMemory.ensures.fault)
+    let played = failed_played _ _ _ _ _ s w _ _ stands c.requires.in_play.played.3 c.args.number c.in-Some.found.0
+    c.in-Some.found.1 found (rw c.in-Err-NoMemory.field-0-is at c.in-Err-NoMemory.ensures.fault) in
+    record {
+      many = omega (arith, c.step.auto.watches, c.requires.in_play.many, ap (λ (x : Cube). x.places) c.in-Err-NoMemory.ensures.same.cube);
+      watched = c.in-Err-NoMemory.ensures.watches;
+      played = played;
+      fit = c.in-Err-NoMemory.ensures.fits;
+    }
+
+pub returns-in-Err-NoMemory-clause-turned : goal.returns-in-Err-NoMemory-clause-turned
+returns-in-Err-NoMemory-clause-turned g c = (
+  c.in-Some.found.1,
+  λ s w stands led. c.in-Some.ensures.finds s w stands,
+  rw c.in-Err-NoMemory.field-0-is at c.in-Err-NoMemory.ensures.fault,
+)
 
 pub returns-in-Err-NoMemory-clause-most : goal.returns-in-Err-NoMemory-clause-most
 returns-in-Err-NoMemory-clause-most g c =
-    let s = c.requires.played.0 in
-    let w = c.requires.played.1 in
-    let stands = c.requires.played.2 in
+    let s = c.requires.in_play.played.0 in
+    let w = c.requires.in_play.played.1 in
+    let stands = c.requires.in_play.played.2 in
     let few =
     failed_few _ _ _ _ _ s w _ _ stands c.in-Some.found.1
     (rw c.in-Err-NoMemory.field-0-is at c.in-Err-NoMemory.ensures.fault)
@@ -86,10 +107,10 @@ returns-in-Err-NoMemory-clause-most g c =
     omega (arith, few, batch)
 
 pub returns-in-None-clause-few : goal.returns-in-None-clause-few
-returns-in-None-clause-few g c = c.requires.played.2.shows.limits.batch.1
+returns-in-None-clause-few g c = c.requires.in_play.played.2.shows.limits.batch.1
 
 pub returns-in-Ok-clause-few : goal.returns-in-Ok-clause-few
-returns-in-Ok-clause-few g c = c.requires.played.2.shows.limits.batch.1
+returns-in-Ok-clause-few g c = c.requires.in_play.played.2.shows.limits.batch.1
 
 pub returns-in-Err-NoMemory-clause-few : goal.returns-in-Err-NoMemory-clause-few
-returns-in-Err-NoMemory-clause-few g c = c.requires.played.2.shows.limits.batch.1
+returns-in-Err-NoMemory-clause-few g c = c.requires.in_play.played.2.shows.limits.batch.1

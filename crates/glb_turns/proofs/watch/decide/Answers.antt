@@ -1,10 +1,11 @@
 use Rattle.std.proofs.Common.{◌≡◌, ◌∙◌, sym, subst, ap, inr, ℕ, ◌<◌}
-use Rattle.glb_core.specs.World.{Setup}
-use Rattle.glb_core.specs.Sight.{Sight, sight, state_at}
-use Rattle.glb_core.specs.Decision.{MintedSeesWant, decide}
-use Rattle.glb_core.specs.declared.place_state.PlaceState.{PlaceState}
-use Rattle.glb_core.specs.declared.event.Action.{Action}
-use Rattle.glb_core.proofs.ScheduleFacts.{minted_sees}
+use Rattle.glb_rules.specs.World.{Setup}
+use Rattle.glb_rules.specs.Sight.{Sight, state_at}
+use Rattle.glb_core.specs.Seen.{sight}
+use Rattle.glb_rules.specs.Decision.{MintedSeesWant, decide}
+use Rattle.glb_rules.specs.declared.place_state.PlaceState.{PlaceState}
+use Rattle.glb_rules.specs.declared.event.Action.{Action}
+use Rattle.glb_rules.proofs.CallerLemmas.{minted_sees}
 use Rattle.glb_turns.proofs.WatchFacts.{known_by}
 use Rattle.glb_turns.proofs.watch.decide.Goals as goal
 

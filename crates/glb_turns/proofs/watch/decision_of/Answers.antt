@@ -1,11 +1,12 @@
 use Rattle.std.proofs.Common.{◌≡◌, ◌∙◌, sym, subst, ap}
-use Rattle.glb_core.specs.Sight.{sight, state_at}
-use Rattle.glb_core.specs.Decision.{decide}
-use Rattle.glb_core.specs.declared.kinds.Phase.TheVariants as phase
-use Rattle.glb_core.specs.declared.seen.InEdge.{InEdge}
-use Rattle.glb_core.specs.declared.event.Event.TheVariants.{Look}
-use Rattle.glb_core.specs.declared.event.Action.TheVariants.{Do}
-use Rattle.glb_turns.specs.Watches.{Knows}
+use Rattle.glb_core.specs.Seen.{sight}
+use Rattle.glb_rules.specs.Sight.{state_at}
+use Rattle.glb_rules.specs.Decision.{decide}
+use Rattle.glb_rules.specs.declared.kinds.Phase.TheVariants as phase
+use Rattle.glb_rules.specs.declared.edges.InEdge.{InEdge}
+use Rattle.glb_rules.specs.declared.event.Event.TheVariants.{Look}
+use Rattle.glb_rules.specs.declared.event.Action.TheVariants.{Do}
+use Rattle.glb_turns.specs.inner.Watches.{Knows}
 use Rattle.glb_turns.specs.declared.watch.Knowledge.TheVariants as knowledge
 use Rattle.glb_turns.proofs.LookFacts.{looks_decide}
 use Rattle.glb_turns.proofs.watch.decision_of.Goals as goal

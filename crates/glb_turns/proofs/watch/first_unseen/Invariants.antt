@@ -1,5 +1,5 @@
 use Rattle.std.proofs.Common.{◌≡◌, ◌<◌, ℕ, false, get_or}
-use Rattle.glb_core.specs.Decision.{is_unseen}
+use Rattle.glb_rules.specs.Decision.{is_unseen}
 use Rattle.glb_turns.proofs.watch.first_unseen.Given as goal
 
 abbrev pub invariant-loop-at : goal.invariant-loop-at

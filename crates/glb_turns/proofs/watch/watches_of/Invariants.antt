@@ -1,5 +1,5 @@
 use Rattle.std.proofs.Common.{◌≡◌, length}
-use Rattle.glb_turns.specs.Watches.{AreStale}
+use Rattle.glb_turns.specs.inner.Watches.{AreStale}
 use Rattle.glb_turns.proofs.watch.watches_of.Given as goal
 
 abbrev pub invariant-loop-place : goal.invariant-loop-place

@@ -1,6 +1,6 @@
 use Rattle.std.proofs.Common.{sym, subst}
-use Rattle.glb_core.specs.Sight.{IsMadeFor}
-use Rattle.glb_core.proofs.SeenFacts.{first_is, first_made}
+use Rattle.glb_core.specs.Seen.{IsMadeFor}
+use Rattle.glb_core.proofs.Lifelines.Seen.{first_is, first_made}
 use Rattle.glb_core.proofs.seen.Seen.new.Goals as goal
 
 pub returns-clause-first : goal.returns-clause-first

@@ -1,6 +1,6 @@
 use Rattle.std.proofs.Common.{◌≡◌, ◌<◌, ℕ, get_or}
-use Rattle.glb_core.specs.declared.kinds.Kind.TheVariants as kind
-use Rattle.glb_core.specs.declared.kinds.Mark.TheVariants as mark
+use Rattle.glb_rules.specs.declared.kinds.Kind.TheVariants as kind
+use Rattle.glb_rules.specs.declared.kinds.Mark.TheVariants as mark
 use Rattle.glb_core.specs.Tables.{mark_index}
 use Rattle.glb_core.proofs.world.conditions.clear_of_lines.Given as goal
 
@@ -8,6 +8,6 @@ abbrev pub invariant-loop-thief : goal.invariant-loop-thief
 invariant-loop-thief g l =
     record {
       passed : (i : ℕ) → i < l.thief-index
-          → get_or l.seat.marks.items (mark_index l.places kind.Line (get_or l.thieves i 0)) mark.Unseen ≡
+          → get_or l.place_row.marks.items (mark_index l.places kind.Line (get_or l.thieves i 0)) mark.Unseen ≡
           mark.Clear;
     }

@@ -1,24 +1,29 @@
-use Rattle.std.proofs.Common.{arith, ◌≡◌}
-use Rattle.glb_core.specs.declared.kinds.Kind.TheVariants as kind
-use Rattle.glb_core.specs.declared.world.seat.Slot.TheVariants as kept
-use Rattle.glb_core.specs.Tables.{slot_index}
-use Rattle.glb_core.proofs.SlotFacts.{slot_below, at_index}
+use Rattle.std.proofs.Common.{arith, ◌≡◌, ◌∙◌, sym}
+use Rattle.std.proofs.lemmas.Bool.{true≢false}
+use Rattle.glb_rules.specs.declared.kinds.Kind.TheVariants as kind
+use Rattle.glb_core.specs.declared.world.rows.EdgeRow.TheVariants as edge_row
+use Rattle.glb_core.specs.Tables.{edge_index}
+use Rattle.glb_core.proofs.Tables.EdgeRows.{edge_index_below, at_index}
+use Rattle.glb_core.proofs.world.conditions.is_asked_by_steals.Goals.{in-Asked, in_default}
 use Rattle.glb_core.proofs.world.conditions.is_asked_by_steals.Goals as goal
 
-pub returns-then-is_asked-clause-found : goal.returns-then-is_asked-clause-found
-returns-then-is_asked-clause-found g c = λ _. (
+pub returns-then-matches-clause-found : goal.returns-then-matches-clause-found
+returns-then-matches-clause-found g c = λ _. (
   c.loop-thief.thief,
   c.loop-thief-test.true,
   c.if-thief-place.true,
-  at_index (λ z. z ≡ kept.Asked) c.args.slots.now c.slot_index.result
-      (slot_index c.args.places kind.Steal c.loop-thief.thief c.args.place)
-      c.index-slots-slot_index.result kept.Idle c.index-slots-slot_index.is
+  at_index (λ z. z ≡ edge_row.Asked) c.args.edge_rows.now c.edge_index.result
+      (edge_index c.args.places kind.Steal c.loop-thief.thief c.args.place)
+      c.index-edge_rows-edge_index.result edge_row.Idle c.index-edge_rows-edge_index.is
       (omega (
         arith,
-        c.slot_index.ensures,
-        c.requires.slots,
-        slot_below c.args.places kind.Steal c.loop-thief.thief c.args.place c.loop-thief-test.true
+        c.edge_index.ensures,
+        c.requires.edge_rows,
+        edge_index_below c.args.places kind.Steal c.loop-thief.thief c.args.place c.loop-thief-test.true
             c.requires.place,
       ))
-      c.slot_index.ensures (c.is_asked.ensures.0 c.if-is_asked.true),
+      c.edge_index.ensures (elim c.match-matches.branch [
+        | in-Asked w ↦ w.in-Asked.is
+        | in_default w ↦ absurd (true≢false (sym c.if-matches.true ∙ w.matches-is))
+      ]),
 )

@@ -1,5 +1,6 @@
 use Rattle.std.proofs.Common.{◌≡◌, drop}
-use Rattle.glb_cube.specs.Lines.{has_number, outs_of}
+use Rattle.glb_laws.specs.Numbers.{has_number}
+use Rattle.glb_cube.specs.Lines.{outs_of}
 use Rattle.glb_core.proofs.world.conditions.is_line.Given as goal
 
 abbrev pub invariant-loop-target : goal.invariant-loop-target

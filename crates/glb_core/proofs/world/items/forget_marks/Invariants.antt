@@ -1,5 +1,5 @@
 use Rattle.std.proofs.Common.{◌≡◌, replicate, take}
-use Rattle.glb_core.specs.declared.kinds.Mark.TheVariants as mark
+use Rattle.glb_rules.specs.declared.kinds.Mark.TheVariants as mark
 use Rattle.glb_core.proofs.world.items.forget_marks.Given as goal
 
 abbrev pub invariant-loop-mark : goal.invariant-loop-mark

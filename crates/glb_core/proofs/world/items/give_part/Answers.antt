@@ -7,9 +7,9 @@ returns-clause-given g c =
     let s = rw c.in-Some.is at c.in_ok-part.ensures.same in
     record {
       part = c.in-Some.part;
-      slot_is = refl;
+      edge_row_is = refl;
       some = h.0;
       left = h.1;
       same = s;
-      seat = rw (c.count_given.ensures, c.len.ensures) refl;
+      place_row = rw (c.count_given.ensures, c.len.ensures) refl;
     }

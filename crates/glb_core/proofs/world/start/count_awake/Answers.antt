@@ -1,6 +1,6 @@
 use Rattle.std.proofs.Common.{◌+◌, arith, refl, ap, ◌∙◌, map, get_or, []}
-use Rattle.glb_core.specs.Setups.{has_items, bit}
-use Rattle.glb_core.proofs.StartFacts.{sum_more}
+use Rattle.glb_rules.specs.Setups.{has_items, bit}
+use Rattle.glb_core.proofs.Start.Made.{sum_more}
 use Rattle.glb_core.proofs.world.start.count_awake.Goals as goal
 
 pub loop-place-preserved : goal.loop-place-preserved

@@ -1,6 +1,6 @@
 use Rattle.std.proofs.Common.{◌≡◌, ◌≤◌, map, get_or, []}
-use Rattle.glb_core.specs.Sums.{sum_to}
-use Rattle.glb_core.specs.Setups.{has_items, bit}
+use Rattle.glb_laws.specs.Sums.{sum_to}
+use Rattle.glb_rules.specs.Setups.{has_items, bit}
 use Rattle.glb_core.proofs.world.start.count_awake.Given as goal
 
 abbrev pub invariant-loop-place : goal.invariant-loop-place

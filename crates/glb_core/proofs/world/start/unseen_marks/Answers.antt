@@ -1,6 +1,6 @@
 use Rattle.std.proofs.Common.{ap, ◌∙◌, ◌++◌, ◌∷◌, []}
 use Rattle.std.proofs.lemmas.List.{replicate_more}
-use Rattle.glb_core.specs.declared.kinds.Mark.TheVariants as mark
+use Rattle.glb_rules.specs.declared.kinds.Mark.TheVariants as mark
 use Rattle.glb_core.proofs.world.start.unseen_marks.Goals as goal
 
 pub loop-i-preserved : goal.loop-i-preserved

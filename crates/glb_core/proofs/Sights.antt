@@ -1,0 +1,3 @@
+-- What the tables tell of a place.
+pub mod Told
+pub mod Alike

@@ -1,0 +1,3 @@
+-- The tables of a start.
+pub mod Filled
+pub mod Made

@@ -1,5 +1,0 @@
-use Rattle.glb_core.proofs.QuietFacts.{finished_quiet}
-use Rattle.glb_core.proofs.laws.finished_is_quiet.Goals as goal
-
-pub returns : goal.returns
-returns g c = λ s w L z. finished_quiet s w L z

@@ -1,5 +1,0 @@
-use Rattle.glb_core.proofs.QuietFacts.{held}
-use Rattle.glb_core.proofs.laws.lines_of_sleepers_are_armed.Goals as goal
-
-pub returns : goal.returns
-returns g c = λ s w L. held s w L

@@ -1,0 +1,4 @@
+-- Sums over places and edges, and lists of lists.
+pub mod Totals
+pub mod Joined
+pub mod Members
