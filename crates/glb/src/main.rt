@@ -4,6 +4,7 @@
 use glb_io::{StdSink, StdSource};
 use glb_run::{NoGate, top};
 use std::env;
+use std::io::ErrorKind;
 use std::process::ExitCode;
 
 /// The exit status of faulty words.
@@ -14,8 +15,12 @@ const NO_MEMORY: u8 = 8;
 
 fn main(rt: HostRuntime) -> ExitCode {
     let alloc = rt.alloc();
-    let Ok(args) = env::args(&rt) else {
-        return ExitCode::from(BAD_WORDS);
+    let args = match env::args(&rt) {
+        Ok(args) => args,
+        Err(error) if error.kind() == ErrorKind::OutOfMemory => {
+            return ExitCode::from(NO_MEMORY);
+        }
+        Err(_) => return ExitCode::from(BAD_WORDS),
     };
     let Ok(words) = args
         .skip(1)

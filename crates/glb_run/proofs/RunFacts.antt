@@ -1,137 +1,157 @@
--- How the parts of a call make its whole.
-use Rattle.std.proofs.Common.{◌≡◌, ◌≢◌, ◌⊎◌, inl, inr, ℕ, List, refl, sym, subst, Result, Ok, Err}
-use Rattle.std.specs.Prelude.{◌≤◌, true, IfOk, IfErr, OnOk, OnErr, MatchResult, Option, take, length}
-use Rattle.glb_io.specs.Bytes.{Gives}
+-- How the stages of a call make its whole.
+use Rattle.std.proofs.Common.{◌≡◌, ◌≢◌, ◌⊎◌, inl, inr, ⊎_elim, ℕ, List, ◌++◌, refl, sym, ap, ◌∙◌}
+use Rattle.std.proofs.Common.{subst, Result, Ok, Err}
+use Rattle.std.specs.Prelude.{◌≤◌, true, IfOk, IfErr, OnOk, OnErr, Option, Some, None, take, length}
+use Rattle.std.proofs.lemmas.List.{append_assoc}
+use Rattle.glb_io.specs.Bytes.{Gives, Takes}
 use Rattle.glb_io.specs.Faults.{Rose}
 use Rattle.glb_words.specs.Rules.{Text}
 use Rattle.glb_words.specs.declared.fault.WordFault.{WordFault}
+use Rattle.glb_words.specs.declared.settings.Job.{Job}
 use Rattle.glb_words.specs.declared.settings.Job.TheVariants as job
 use Rattle.glb_tree.specs.declared.run.RunFault.{RunFault}
 use Rattle.glb_tree.specs.declared.run.RunFault.TheVariants as run_fault
 use Rattle.glb_uts.specs.Descriptors.{root_descriptor}
 use Rattle.glb_uts.specs.declared.uts.Uts.{Uts}
 use Rattle.glb_uts.specs.declared.node.Node.{Node}
-use Rattle.glb_graph.specs.Reading.{SaysFault}
-use Rattle.glb_graph.specs.declared.text.GraphFault.{GraphFault}
-use Rattle.glb_graph.specs.declared.text.GraphFault.TheVariants as graph_fault
+use Rattle.glb_run.specs.declared.job.Task.{Task}
 use Rattle.glb_run.specs.declared.order.Order.{Order}
 use Rattle.glb_run.specs.declared.status.Status.{Status}
 use Rattle.glb_run.specs.declared.status.Status.TheVariants as status
-use Rattle.glb_run.specs.Ends.{Stream, stream, Tells, HasRead, HasRun, HasCause, IsTold, ReadsAll}
+use Rattle.glb_run.specs.Streams.{Stream, Change, CallRule, IsUntouched, IsOneCall, Reads}
+use Rattle.glb_run.specs.Ends.{ReadsSource, HasRead, HasRun, StatusSays, IsTold}
 use Rattle.glb_run.specs.FaultText.{fault_text}
-use Rattle.glb_run.specs.Jobs.{IsReport, HasTooMany, tree_of, root_of}
-use Rattle.glb_run.specs.Stops.{Wrote, status_of, graph_status}
+use Rattle.glb_run.specs.Jobs.{IsReport, IsReportOf, HasTooManyOf, tree_of, root_of}
+use Rattle.glb_run.specs.inner.Stops.{Wrote, Finishes, status_of}
+use Rattle.glb_run.specs.inner.Tasks.{IsTaskOf, IsPrepared, IsTaskReport, StopsTask}
 
--- a tree and its root, by their fields
-pub tree_same : (tree : Uts) (b0 m q seed : ℕ) → tree.b0 ≡ b0 → tree.m ≡ m → tree.q ≡ q → tree.seed ≡ seed
+-- a tree, by its fields
+pub tree_same : (tree : Uts) (b0 m q seed : ℕ) → tree.b0 ≡ b0 → tree.m ≡ m → tree.q ≡ q
+    → tree.seed ≡ seed
     → tree ≡ tree_of b0 m q seed
 tree_same tree b0 m q seed e f g h = rw (← e, ← f, ← g, ← h) refl
 
+-- its root, by its fields
 pub root_same : (root : Node) (seed : ℕ) → root.descriptor ≡ root_descriptor seed → root.depth ≡ 0
     → root.root ≡ true → root ≡ root_of seed
 root_same root seed e f g = rw (← e, ← f, ← g) refl
 
--- a report that was written, whole or in part
-pub wrote : (order : Order) (input : List ℕ) (report : Text) (source source' out out' : Stream) (s : Status)
-    → HasRead order.job input source source' → IsReport order.job order input report
-    → Wrote report out out' s → HasRun order source source' out out' s
-wrote order input report source source' out out' status.Done read is w = (input, read, (report, is, w))
-wrote order input report source source' out out' (status.BadWords kind word) read is w = absurd w
-wrote order input report source source' out out' status.ReadFault read is w = absurd w
-wrote order input report source source' out out' status.TooLong read is w = absurd w
-wrote order input report source source' out out' (status.BadGraph kind line) read is w = absurd w
-wrote order input report source source' out out' (status.TooMany items) read is w = absurd w
-wrote order input report source source' out out' (status.WriteFault taken) read is w =
-    (input, read, (report, is, w))
-wrote order input report source source' out out' status.NoMemory read is w = absurd w
+-- the report of a job's task is the report of the job
+task_report : (j : Job) (order : Order) (input : List ℕ) (t : Task) (text : Text)
+    → IsTaskOf j input t
+    → IsTaskReport t order text → IsReportOf j order input text
+task_report (job.Queens n) order input t text is report =
+    subst (λ u. IsTaskReport u order text) is report
+task_report (job.Uts b0 m q seed) order input t text is report =
+    subst (λ u. IsTaskReport u order text) is report
+task_report job.Dist order input t text is report =
+    (is.0, is.1, subst (λ u. IsTaskReport u order text) is.2 report)
 
--- a run that ended early
-pub ended : (order : Order) (input : List ℕ) (source source' out out' : Stream) (fault : RunFault)
-    → HasRead order.job input source source'
-    → ((items : ℕ) → fault ≡ run_fault.TooMany items → HasTooMany order.job order input items)
-    → out' ≡ out → (order.job ≡ job.Dist) ⊎ (source' ≡ source)
-    → HasRun order source source' out out' (status_of fault)
-ended order input source source' out out' (run_fault.TooMany items) read large same apart =
-    (same, (input, read, large items refl))
-ended order input source source' out out' run_fault.NoMemory read large same apart = (same, apart)
+-- a task that is too large is that of a job that is
+task_large : (j : Job) (order : Order) (input : List ℕ) (t : Task) (items : ℕ) → IsTaskOf j input t
+    → StopsTask t order (run_fault.TooMany items) → HasTooManyOf j order input items
+task_large (job.Queens n) order input t items is large =
+    subst (λ u. StopsTask u order (run_fault.TooMany items)) is large
+task_large (job.Uts b0 m q seed) order input t items is large =
+    subst (λ u. StopsTask u order (run_fault.TooMany items)) is large
+task_large job.Dist order input t items is large =
+    (is.0, is.1, subst (λ u. StopsTask u order (run_fault.TooMany items)) is.2 large)
 
--- a run and the writing of its report
-pub finished : {Bytes : Type 0} (items_of : Bytes → List ℕ) (Cause : RunFault → Type 0) (order : Order)
-    (input : List ℕ) (source source' out out' : Stream) (s : Status)
-    → HasRead order.job input source source'
-    → ((items : ℕ) → Cause (run_fault.TooMany items) → HasTooMany order.job order input items)
-    → (order.job ≡ job.Dist) ⊎ (source' ≡ source)
-    → (r : Result Bytes RunFault) → IfOk r (λ bytes. IsReport order.job order input (items_of bytes))
-    → IfErr r Cause
-    → MatchResult r (λ bytes. Wrote (items_of bytes) out out' s)
-    (λ fault. (s ≡ status_of fault) × (out' ≡ out))
-    → HasRun order source source' out out' s
-finished items_of Cause order input source source' out out' s read large apart (Ok bytes) is cause done =
-    wrote order input (items_of bytes) source source' out out' s read is done
-finished items_of Cause order input source source' out out' s read large apart (Err fault) is cause done =
-    subst (HasRun order source source' out out') (sym done.0)
-    (ended order input source source' out out' fault read (λ items e. large items (subst Cause e cause))
-    done.1 apart)
+-- bytes that were taken one piece after the other
+takes_more : (first middle last : Option (List ℕ)) (xs ys : List ℕ) → Takes first middle xs
+    → Takes middle last ys → Takes first last (xs ++ ys)
+takes_more first middle None xs ys a b = tt
+takes_more first None (Some zs) xs ys a b = absurd b
+takes_more None (Some ws) (Some zs) xs ys a b = absurd a
+takes_more (Some vs) (Some ws) (Some zs) xs ys a b =
+    a ∙ ap (λ l. xs ++ l) b ∙ sym (append_assoc xs ys zs)
 
--- an input that gave no graph
-pub ungraphed : (order : Order) (input : List ℕ) (source source' out out' : Stream) (fault : GraphFault)
-    → order.job ≡ job.Dist → ReadsAll input source source' → SaysFault input fault → out' ≡ out
-    → HasRun order source source' out out' (graph_status fault)
-ungraphed order input source source' out out' (graph_fault.BadLine line) is read says same =
-    (is, same, (input, read, says))
-ungraphed order input source source' out out' (graph_fault.TooLarge line) is read says same =
-    (is, same, (input, read, says))
-ungraphed order input source source' out out' (graph_fault.BadEnd line) is read says same =
-    (is, same, (input, read, says))
-ungraphed order input source source' out out' graph_fault.NoMemory is read says same = (same, inl is)
+-- what the job reads is nothing, or all of the source
+read_or_not : {S : Type 0} (j : Job) (input : List ℕ) (source : Change S) → HasRead j input source
+    → IsUntouched source ⊎ (ReadsSource j × ((bytes : List ℕ) × Reads bytes source))
+read_or_not (job.Queens n) input source read = inl read.1
+read_or_not (job.Uts b0 m q seed) input source read = inl read.1
+read_or_not job.Dist input source read = inr (tt, (input, read.reads))
 
--- what was told of a refusal
-pub told_fault : (limit : ℕ) (old new : Stream) (s : Status) → s ≢ status.Done
-    → Tells (fault_text limit s) old new → IsTold limit old new s
-told_fault limit old new status.Done other tells = absurd (other refl)
-told_fault limit old new (status.BadWords kind word) other tells = tells
-told_fault limit old new status.ReadFault other tells = tells
-told_fault limit old new status.TooLong other tells = tells
-told_fault limit old new (status.BadGraph kind line) other tells = tells
-told_fault limit old new (status.TooMany items) other tells = tells
-told_fault limit old new (status.WriteFault taken) other tells = tells
-told_fault limit old new status.NoMemory other tells = tells
+-- a read without a fault after others
+pub reads_more : {S : Type 0} (first middle last : Stream S) (xs ys : List ℕ)
+    → Reads xs (record { before = first; after = middle }) → Takes middle.bytes last.bytes ys
+    → last.faults ≡ middle.faults → Reads (xs ++ ys) (record { before = first; after = last })
+reads_more first middle last xs ys reads taken same = record {
+  taken = takes_more first.bytes middle.bytes last.bytes xs ys reads.taken taken;
+  no_fault = same ∙ reads.no_fault;
+}
 
--- one call of a sink with a text tells it, whatever comes of it
-pub told_line : {F : Type 0} (bytes bytes' : Option (List ℕ)) (faults faults' : ℕ) (piece text : List ℕ)
-    → piece ≡ text → (r : Result (Unit {0}) (F × ℕ))
-    → OnOk r (Gives bytes bytes' piece) → IfErr r (λ e. Gives bytes bytes' (take e.1 piece))
-    → IfErr r (λ e. e.1 ≤ length piece)
-    → faults ≤ faults' → OnErr r (Rose faults faults')
-    → Tells text (stream bytes faults) (stream bytes' faults')
-told_line bytes bytes' faults faults' piece text e (Ok u) whole part within later cause =
-    inl (record { given = subst (Gives bytes bytes') e whole; later = later })
-told_line bytes bytes' faults faults' piece text e (Err f) whole part within later cause =
-    inr (
-      f.1,
-      record {
-        given = subst (λ t. Gives bytes bytes' (take f.1 t)) e part;
-        within =
-            subst (λ t. f.1 ≤ length t) e within;
-        rose = cause;
-      },
-    )
+module _ {S K : Type 0} (IsCall : CallRule K) (order : Order) (source : Change S)
+    (out : Change K) where
+  -- a report that was written, whole or in part
+  wrote : (input : List ℕ) (report : Text) (s : Status) → HasRead order.job input source
+      → IsReport order input report → Wrote IsCall report out s → HasRun order IsCall source out s
+  wrote input report status.Done read is w = (input, read, (report, is, w))
+  wrote input report (status.BadWords kind word) read is w = absurd w
+  wrote input report status.ReadFault read is w = absurd w
+  wrote input report status.TooLong read is w = absurd w
+  wrote input report (status.BadGraph kind line) read is w = absurd w
+  wrote input report (status.TooMany items) read is w = absurd w
+  wrote input report (status.WriteFault taken) read is w = (input, read, (report, is, w))
+  wrote input report status.NoMemory read is w = absurd w
 
-no_memory : (order : Order) (source source' : Stream) (read : Result Order WordFault) → read ≡ Ok order
-    → (order.job ≡ job.Dist) ⊎ (source' ≡ source)
-    → (source' ≡ source) ⊎ ((order : Order) × (read ≡ Ok order) × (order.job ≡ job.Dist))
-no_memory order source source' read e (inl is) = inr (order, e, is)
-no_memory order source source' read e (inr same) = inl same
+  -- a run that ended early
+  ended : (t : Task) → IsPrepared order source t → (fault : RunFault) → StopsTask t order fault
+      → IsUntouched out
+      → HasRun order IsCall source out (status_of fault)
+  ended t p (run_fault.TooMany items) stops same =
+      (same, (p.input, p.read, task_large order.job order p.input t items p.task_is stops))
+  ended t p run_fault.NoMemory stops same = (same, read_or_not order.job p.input source p.read)
 
--- an order that was carried out is what the words say
-pub caused : (order : Order) (read : Result Order WordFault) (source source' out out' : Stream) (s : Status)
-    → read ≡ Ok order → HasRun order source source' out out' s → HasCause read source source' out out' s
-caused order read source source' out out' status.Done e run = (order, e, run)
-caused order read source source' out out' (status.BadWords kind word) e run = absurd run
-caused order read source source' out out' status.ReadFault e run = (order, e, run)
-caused order read source source' out out' status.TooLong e run = (order, e, run)
-caused order read source source' out out' (status.BadGraph kind line) e run = (order, e, run)
-caused order read source source' out out' (status.TooMany items) e run = (order, e, run)
-caused order read source source' out out' (status.WriteFault taken) e run = (order, e, run)
-caused order read source source' out out' status.NoMemory e run =
-    (run.0, no_memory order source source' read e run.1)
+  -- a task that was run, and the writing of its report
+  pub finished : {Bytes : Type 0} (items_of : Bytes → Text) (t : Task) → IsPrepared order source t
+      → (r : Result Bytes RunFault) → IfOk r (λ bytes. IsTaskReport t order (items_of bytes))
+      → IfErr r (StopsTask t order) → (s : Status) → Finishes IsCall items_of r out s
+      → HasRun order IsCall source out s
+  finished items_of t p (Ok bytes) report stops s done =
+      wrote p.input (items_of bytes) s p.read
+      (task_report order.job order p.input t (items_of bytes) p.task_is report) done
+  finished items_of t p (Err fault) report stops s done =
+      subst (HasRun order IsCall source out) (sym done.0) (ended t p fault stops done.1)
+
+  -- an order that was carried out is what the words say
+  pub caused : (read : Result Order WordFault) → read ≡ Ok order → (s : Status)
+      → HasRun order IsCall source out s → StatusSays read IsCall source out s
+  caused read e status.Done run = (order, e, run)
+  caused read e (status.BadWords kind word) run = absurd run
+  caused read e status.ReadFault run = (order, e, run)
+  caused read e status.TooLong run = (order, e, run)
+  caused read e (status.BadGraph kind line) run = (order, e, run)
+  caused read e (status.TooMany items) run = (order, e, run)
+  caused read e (status.WriteFault taken) run = (order, e, run)
+  caused read e status.NoMemory run =
+      (run.0, ⊎_elim (λ same. inl same) (λ reads. inr (order, e, (run.0, inr reads))) run.1)
+
+module _ {E : Type 0} (IsCall : CallRule E) (err : Change E) where
+  -- what was told of a refusal
+  pub told_fault : (limit : ℕ) (s : Status) → s ≢ status.Done
+      → IsOneCall IsCall (fault_text limit s) err
+      → IsTold limit IsCall err s
+  told_fault limit status.Done other tells = absurd (other refl)
+  told_fault limit (status.BadWords kind word) other tells = tells
+  told_fault limit status.ReadFault other tells = tells
+  told_fault limit status.TooLong other tells = tells
+  told_fault limit (status.BadGraph kind line) other tells = tells
+  told_fault limit (status.TooMany items) other tells = tells
+  told_fault limit (status.WriteFault taken) other tells = tells
+  told_fault limit status.NoMemory other tells = tells
+
+  -- one call of a sink with a text tells it, whatever comes of it
+  pub told_line : {F : Type 0} (piece text : Text) → piece ≡ text → (r : Result (Unit {0}) (F × ℕ))
+      → IsCall err.before.state piece err.after.state
+      → OnOk r (Gives err.before.bytes err.after.bytes piece)
+      → IfErr r (λ e. Gives err.before.bytes err.after.bytes (take e.1 piece))
+      → IfErr r (λ e. e.1 ≤ length piece) → OnErr r (Rose err.before.faults err.after.faults)
+      → OnOk r (err.after.faults ≡ err.before.faults) → IsOneCall IsCall text err
+  told_line piece text e (Ok u) called whole part within cause calm =
+      subst (λ t. IsOneCall IsCall t err) e
+      (inl (record { called = called; given = whole; no_fault = calm }))
+  told_line piece text e (Err f) called whole part within cause calm =
+      subst (λ t. IsOneCall IsCall t err) e
+      (inr (f.1, record { called = called; given = part; within = within; rose = cause }))

@@ -2,7 +2,9 @@
 use Rattle.std.specs.Prelude.{ℕ, [], ◌∷◌, ◌++◌, codes, decimal}
 use Rattle.glb_words.specs.Rules.{Text}
 use Rattle.glb_words.specs.declared.fault.WordKind.{WordKind}
-use Rattle.glb_words.specs.declared.fault.WordKind.TheVariants.{Missing, UnknownJob, NotNumber, OutOfRange, UnknownOption, Repeated, BadChoice, Calm}
+use Rattle.glb_words.specs.declared.fault.WordKind.TheVariants.{Missing, UnknownJob, NotNumber}
+use Rattle.glb_words.specs.declared.fault.WordKind.TheVariants.{OutOfRange, UnknownOption, Repeated}
+use Rattle.glb_words.specs.declared.fault.WordKind.TheVariants.{BadChoice, Calm}
 use Rattle.glb_run.specs.declared.status.GraphKind.{GraphKind}
 use Rattle.glb_run.specs.declared.status.GraphKind.TheVariants as graph_kind
 use Rattle.glb_run.specs.declared.status.Status.{Status}

@@ -1,23 +1,24 @@
--- The tree of each job, and its report.
-use Rattle.std.specs.Prelude.{ℕ, true, List, [], length, max}
-use Rattle.glb_laws.specs.Bounded.{sat_sum, greatest, capped_sum}
-use Rattle.glb_laws.specs.Pair.{both}
+-- The trees of each job, and its report.
+use Rattle.std.specs.Prelude.{ℕ, true, List, [], length}
+use Rattle.glb_laws.specs.Bounded.{sat_sum, capped_sum}
+use Rattle.glb_laws.specs.Tree.{IsSmall}
 use Rattle.glb_laws.specs.declared.sat_sum.SatSum.{SatSum}
 use Rattle.glb_words.specs.Rules.{Text}
 use Rattle.glb_words.specs.declared.settings.Job.{Job}
 use Rattle.glb_words.specs.declared.settings.Job.TheVariants as job
-use Rattle.glb_queens.specs.Boards.{boards_below, worth}
+use Rattle.glb_queens.specs.Boards.{boards_below, value_of}
 use Rattle.glb_uts.specs.Descriptors.{root_descriptor}
 use Rattle.glb_uts.specs.Binomial as binomial
 use Rattle.glb_uts.specs.declared.uts.Uts.{Uts}
 use Rattle.glb_uts.specs.declared.node.Node.{Node}
 use Rattle.glb_graph.specs.Rows.{edges_of}
 use Rattle.glb_graph.specs.Spots.{spot_children, spot_value}
-use Rattle.glb_graph.specs.Reading.{SaysGraph}
+use Rattle.glb_graph.specs.Reading.{IsTextOf}
 use Rattle.glb_graph.specs.declared.dist.Spot.TheVariants.{Root}
 use Rattle.glb_run.specs.declared.order.Order.{Order}
-use Rattle.glb_run.specs.Reports.{Tallies, queens_text, uts_text, dist_text}
-use Rattle.glb_run.specs.Runs.{IsTreeReport, IsTooLarge}
+use Rattle.glb_laws.specs.Tallies.{no_tallies, join_tallies}
+use Rattle.glb_run.specs.Reports.{queens_text, uts_text, dist_text}
+use Rattle.glb_run.specs.Runs.{IsTreeReport, IsTooLarge, at_first, all_roots}
 
 -- sums that stop at the last value of 64 bits
 abbrev pub no_sum : SatSum
@@ -26,49 +27,69 @@ no_sum = sat_sum 0
 abbrev pub add_sums : SatSum → SatSum → SatSum
 add_sums a b = sat_sum (capped_sum a.0 b.0)
 
--- two such sums and a greatest
-abbrev pub no_tallies : Tallies
-no_tallies = both no_sum (both no_sum (greatest 0))
-
-abbrev pub join_tallies : Tallies → Tallies → Tallies
-join_tallies a b =
-    both (add_sums a.0 b.0) (both (add_sums a.1.0 b.1.0) (greatest (max a.1.1.0 b.1.1.0)))
-
 -- placements of n queens: the tree of the board without queens
 abbrev pub IsQueensReport : ℕ → Order → Text → Type 0
 IsQueensReport n order text =
-    IsTreeReport (boards_below n) (worth n) no_sum add_sums [] order (queens_text n) text
+    IsTreeReport (boards_below n) (value_of n) add_sums no_sum (at_first []) order
+    (queens_text n) text
 
 -- a binomial tree
 abbrev pub tree_of : ℕ → ℕ → ℕ → ℕ → Uts
 tree_of b0 m q seed = record { b0 = b0; m = m; q = q; seed = seed }
 
+-- its root
 abbrev pub root_of : ℕ → Node
 root_of seed = record { descriptor = root_descriptor seed; depth = 0; root = true }
 
-abbrev pub IsUtsReport : ℕ → ℕ → ℕ → ℕ → Order → Text → Type 0
-IsUtsReport b0 m q seed order text =
-    let tree = tree_of b0 m q seed in
-    IsTreeReport (binomial.children tree) (binomial.worth tree) no_tallies join_tallies (root_of seed) order
-    (uts_text b0 m q seed) text
+-- the nodes of a binomial tree
+abbrev pub IsUtsReport : Uts → Order → Text → Type 0
+IsUtsReport tree order text =
+    IsTreeReport (binomial.children tree) (binomial.value_of tree) join_tallies no_tallies
+    (at_first (root_of tree.seed)) order (uts_text tree.b0 tree.m tree.q tree.seed) text
 
 -- the distances of a graph
 abbrev pub IsDistReport : List (List ℕ) → Order → Text → Type 0
 IsDistReport rows order text =
-    IsTreeReport (spot_children rows) (spot_value rows) no_tallies join_tallies Root order
-    (dist_text (length rows) (edges_of rows)) text
+    IsTreeReport (spot_children rows) (spot_value rows) join_tallies no_tallies (at_first Root)
+    order (dist_text (length rows) (edges_of rows)) text
 
--- the report of the job, where the source gave this input
-abbrev pub IsReport : Job → Order → List ℕ → Text → Type 0
-IsReport (job.Queens n) order input text = IsQueensReport n order text
-IsReport (job.Uts b0 m q seed) order input text = IsUtsReport b0 m q seed order text
-IsReport job.Dist order input text =
-    (rows : List (List ℕ)) × SaysGraph input rows × IsDistReport rows order text
+-- the report of a job, where the source gave this input
+abbrev pub IsReportOf : Job → Order → List ℕ → Text → Type 0
+IsReportOf (job.Queens n) order input text = IsQueensReport n order text
+IsReportOf (job.Uts b0 m q seed) order input text = IsUtsReport (tree_of b0 m q seed) order text
+IsReportOf job.Dist order input text =
+    (rows : List (List ℕ)) × IsTextOf input rows × IsDistReport rows order text
 
--- the job's tree has more nodes than the limit, and so many were expanded
-abbrev pub HasTooMany : Job → Order → List ℕ → ℕ → Type 0
-HasTooMany (job.Queens n) order input items = IsTooLarge (boards_below n) [] order items
-HasTooMany (job.Uts b0 m q seed) order input items =
-    IsTooLarge (binomial.children (tree_of b0 m q seed)) (root_of seed) order items
-HasTooMany job.Dist order input items =
-    (rows : List (List ℕ)) × SaysGraph input rows × IsTooLarge (spot_children rows) Root order items
+-- the report of the order's job
+abbrev pub IsReport : Order → List ℕ → Text → Type 0
+IsReport order = IsReportOf order.job order
+
+-- the trees of a job have more nodes than the order's limit, and so many were expanded
+abbrev pub HasTooManyOf : Job → Order → List ℕ → ℕ → Type 0
+HasTooManyOf (job.Queens n) order input items =
+    IsTooLarge (boards_below n) (at_first []) order items
+HasTooManyOf (job.Uts b0 m q seed) order input items =
+    IsTooLarge (binomial.children (tree_of b0 m q seed)) (at_first (root_of seed)) order items
+HasTooManyOf job.Dist order input items =
+    (rows : List (List ℕ)) × IsTextOf input rows
+    × IsTooLarge (spot_children rows) (at_first Root) order items
+
+-- the same of the order's job
+abbrev pub HasTooMany : Order → List ℕ → ℕ → Type 0
+HasTooMany order = HasTooManyOf order.job order
+
+-- the input is one that the job takes, and the trees of the job have no more nodes than the order's
+-- limit
+abbrev pub IsWithinLimitOf : Job → Order → List ℕ → Type 0
+IsWithinLimitOf (job.Queens n) order input =
+    IsSmall (boards_below n) (all_roots order (at_first [])) order.params.limit
+IsWithinLimitOf (job.Uts b0 m q seed) order input =
+    IsSmall (binomial.children (tree_of b0 m q seed)) (all_roots order (at_first (root_of seed)))
+    order.params.limit
+IsWithinLimitOf job.Dist order input =
+    (rows : List (List ℕ)) × IsTextOf input rows
+    × IsSmall (spot_children rows) (all_roots order (at_first Root)) order.params.limit
+
+-- the same of the order's job
+abbrev pub IsWithinLimit : Order → List ℕ → Type 0
+IsWithinLimit order = IsWithinLimitOf order.job order

@@ -4,11 +4,14 @@ pub mod FaultText
 pub mod Reports
 pub mod Runs
 pub mod Jobs
+pub mod Streams
 pub mod Ends
-pub mod Stops
+pub mod Completeness
+pub mod inner
 pub use Rattle.glb_io.specs.Bytes
 pub use Rattle.glb_io.specs.Faults
 pub use Rattle.glb_words.specs.Rules
 pub use Rattle.glb_words.specs.Words
-pub use Rattle.glb_words.specs.Forms
+pub use Rattle.glb_words.specs.OrderFaults
+pub use Rattle.glb_words.specs.Commands
 pub use Rattle.glb_words.specs.Settings

@@ -1,9 +1,11 @@
 -- What the words of the command order.
-use Rattle.std.specs.Prelude.{◌≤◌, ◌<◌, ◌^◌, Bool, List, Result, Ok, Err}
+use Rattle.std.specs.Prelude.{◌≡◌, Bool, List, Result, Ok, Err}
 use Rattle.glb_words.specs.Rules.{Text}
+use Rattle.glb_words.specs.Commands.{IsFromClap}
 use Rattle.glb_words.specs.Settings.{read_settings, JobFits}
 use Rattle.glb_words.specs.declared.fault.WordFault.{WordFault}
 use Rattle.glb_words.specs.declared.settings.Settings.{Settings}
+use Rattle.glb_rules.specs.Setups.{IsWithinLimits}
 use Rattle.glb_run.specs.declared.order.Order.{Order}
 
 -- the job and the parameters that settings give
@@ -30,12 +32,11 @@ order_or_fault (Err fault) = Err fault
 abbrev pub read_order : Bool → List Text → Result Order WordFault
 read_order calm words = order_or_fault (read_settings calm words)
 
+-- an order of which clap's matches of the words have the values
+abbrev pub IsOrderOfClap : Bool → List Text → Order → Type 0
+IsOrderOfClap calm words order = (s : Settings) × (order ≡ order_of s) × IsFromClap calm words s
+
 -- all numbers of an order are within the limits
 pub record OrderFits (order : Order) : Type 0 where
   pub job : JobFits order.job
-  pub places : (1 ≤ order.params.places) × (order.params.places ≤ 64)
-  pub batch : (1 ≤ order.params.batch) × (order.params.batch ≤ 65536)
-  pub tries : order.params.tries ≤ 64
-  pub base : (2 ≤ order.params.base) × (order.params.base ≤ 64)
-  pub seed : order.params.seed < 2 ^ 64
-  pub limit : (1 ≤ order.params.limit) × (order.params.limit ≤ 1099511627776)
+  pub params : IsWithinLimits order.params

@@ -1,8 +1,7 @@
 -- The text of a report.
 use Rattle.std.specs.Prelude.{ℕ, List, [], ◌∷◌, ◌++◌, Bool, true, false, codes, decimal}
 use Rattle.glb_laws.specs.declared.sat_sum.SatSum.{SatSum}
-use Rattle.glb_laws.specs.declared.greatest.Greatest.{Greatest}
-use Rattle.glb_laws.specs.declared.both.Both.{Both}
+use Rattle.glb_laws.specs.Tallies.{Tallies}
 use Rattle.glb_words.specs.Rules.{Text}
 use Rattle.glb_stats.specs.Text.{stats_text}
 use Rattle.glb_stats.specs.declared.counters.Counters.{Counters}
@@ -10,27 +9,35 @@ use Rattle.glb_stats.specs.declared.counters.Counters.{Counters}
 -- numbers, each behind a space
 abbrev pub numbers_text : List ℕ → Text
 numbers_text [] = []
-numbers_text (n ∷ ns) = 32 ∷ decimal n ++ numbers_text ns
+numbers_text (n ∷ ns) = codes " " ++ decimal n ++ numbers_text ns
 
 -- a name, its numbers and a line feed
 abbrev pub line_text : Text → List ℕ → Text
 line_text name numbers = name ++ numbers_text numbers ++ 10 ∷ []
 
--- what the jobs uts and dist count: two sums and a greatest
-abbrev pub Tallies : Type 0
-Tallies = Both SatSum (Both SatSum Greatest)
+-- the line that names the job of n queens
+abbrev pub queens_line : ℕ → Text
+queens_line n = line_text (codes "queens") (n ∷ [])
+
+-- the line that names the job over a binomial tree
+abbrev pub uts_line : ℕ → ℕ → ℕ → ℕ → Text
+uts_line b0 m q seed = line_text (codes "uts") (b0 ∷ m ∷ q ∷ seed ∷ [])
+
+-- the line that names the job over a graph, by its numbers of vertices and edges
+abbrev pub dist_line : ℕ → ℕ → Text
+dist_line vertices edges = line_text (codes "dist") (vertices ∷ edges ∷ [])
 
 -- the placements of n queens
 abbrev pub queens_text : ℕ → ℕ → SatSum → Text
 queens_text n items placements =
-    line_text (codes "queens") (n ∷ [])
+    queens_line n
     ++ line_text (codes "items") (items ∷ [])
     ++ line_text (codes "placements") (placements.0 ∷ [])
 
 -- the nodes, the leaves and the greatest depth of a binomial tree
 abbrev pub uts_text : ℕ → ℕ → ℕ → ℕ → ℕ → Tallies → Text
 uts_text b0 m q seed items tallies =
-    line_text (codes "uts") (b0 ∷ m ∷ q ∷ seed ∷ [])
+    uts_line b0 m q seed
     ++ line_text (codes "items") (items ∷ [])
     ++ line_text (codes "nodes") (tallies.0.0 ∷ [])
     ++ line_text (codes "leaves") (tallies.1.0.0 ∷ [])
@@ -39,7 +46,7 @@ uts_text b0 m q seed items tallies =
 -- the pairs of vertices that a walk joins, the sum of their distances and the greatest of these
 abbrev pub dist_text : ℕ → ℕ → ℕ → Tallies → Text
 dist_text vertices edges items tallies =
-    line_text (codes "dist") (vertices ∷ edges ∷ [])
+    dist_line vertices edges
     ++ line_text (codes "items") (items ∷ [])
     ++ line_text (codes "pairs") (tallies.0.0 ∷ [])
     ++ line_text (codes "sum") (tallies.1.0.0 ∷ [])

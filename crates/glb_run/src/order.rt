@@ -1,9 +1,9 @@
 //! What the words of the command order.
 ghost use Rattle.std.specs.Prelude.{◌≡◌, ◌<◌, ◌^◌, length, Ok, IfOk, IfErr};
 ghost use Rattle.glb_words.specs.Words.{texts_of};
-ghost use Rattle.glb_words.specs.Forms.{IsFaultOf};
+ghost use Rattle.glb_words.specs.OrderFaults.{IsFaultOf};
 ghost use Rattle.glb_words.specs.Settings.{SettingsFit};
-ghost use Rattle.glb_run.specs.Orders.{order_of, read_order, OrderFits};
+ghost use Rattle.glb_run.specs.Orders.{order_of, read_order, IsOrderOfClap, OrderFits};
 
 use glb_core::Params;
 use glb_words::{Driver, Job, OrderFault, Settings, read_settings};
@@ -43,6 +43,7 @@ pub fn read_words(alloc: Global, words: &[String], calm: bool) -> Result<Order, 
     requires { length words.now < 2 ^ 32 }
     ensures ok { IfOk result (λ order. read_order calm (texts_of words.now) ≡ Ok order) }
     ensures fits { IfOk result OrderFits }
+    ensures clap { IfOk result (IsOrderOfClap calm (texts_of words.now)) }
     ensures fault { IfErr result (IsFaultOf (read_order calm (texts_of words.now))) }
 {
     match read_settings(alloc, words, calm) {

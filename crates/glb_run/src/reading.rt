@@ -1,7 +1,7 @@
 //! Reads a source to its end.
 ghost use Rattle.std.specs.Prelude.{◌≡◌, ◌≤◌, ◌<◌, length, IfOk, IfErr};
-ghost use Rattle.glb_run.specs.Ends.{stream, ReadsAll};
-ghost use Rattle.glb_run.specs.Stops.{StopsReading};
+ghost use Rattle.glb_run.specs.Streams.{change, ReadsAll};
+ghost use Rattle.glb_run.specs.inner.Stops.{StopsReading};
 
 use glb_io::Source;
 use std::alloc::Global;
@@ -23,11 +23,9 @@ const PIECE: usize = 8192;
 /// All bytes of the source, up to the first read that gives none.
 pub(crate) fn read_all<S: Source>(alloc: Global, source: &mut S) -> Result<Vec<u8>, ReadStop>
     ensures read { IfOk result (λ input. ReadsAll input.items
-        (stream (S.left source.old) (S.faults source.old))
-        (stream (S.left source.new) (S.faults source.new))) }
+        (change S.left S.faults source.old source.new)) }
     ensures stop { IfErr result (λ e. StopsReading e
-        (stream (S.left source.old) (S.faults source.old))
-        (stream (S.left source.new) (S.faults source.new))) }
+        (change S.left S.faults source.old source.new)) }
 {
     let mut piece = [0; PIECE];
     let mut input = Vec::new(alloc);

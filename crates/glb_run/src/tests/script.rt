@@ -1,8 +1,8 @@
 //! A script of two places over the boards of two queens, event by event.
 ghost use Rattle.std.specs.Prelude.{◌≡◌, length, true};
-ghost use Rattle.glb_core.specs.Setups.{IsWithinLimits};
-ghost use Rattle.glb_core.specs.TableEffects.{NamesBelow};
-ghost use Rattle.glb_core.specs.ItemEffects.{AllFit};
+ghost use Rattle.glb_rules.specs.Setups.{IsWithinLimits};
+ghost use Rattle.glb_rules.specs.Events.{NamesBelow};
+ghost use Rattle.glb_core.specs.Standing.{AllFit};
 ghost use Rattle.glb_core.specs.Standing.{ListsFit};
 
 use glb_bags::ListBag;
@@ -109,7 +109,8 @@ fn play<R: Abort, P: Program, B: Bag<P>>(
     }
 }
 
-/// Plays the events up to the first sleep, its repetition, which has no case, and the events after it.
+/// Plays the events up to the first sleep, its repetition, which has no case, and the events after
+/// it.
 fn run<R: Abort, P: Program, B: Bag<P>>(
     rt: &R,
     alloc: Global,
@@ -203,5 +204,8 @@ fn two_places_share_the_boards_of_two_queens(rt: HostRuntime) -> Result<(), Fail
     let report = run(&rt, alloc, &queens, &params, bags, &to_sleep, &after_sleep)?;
     assert_eq!(rt; report.items, 4);
     assert_eq!(rt; report.value, SatSum(0));
+    assert_eq!(rt; report.counters.len(), 2);
+    assert_eq!(rt; report.counters[0].line_given, 1);
+    assert_eq!(rt; report.counters[1].wakes, 1);
     Ok(())
 }

@@ -86,7 +86,8 @@ const NOTHING: &str =
 const SIX_LINES: &str =
     "asks 0 shrugs 0 denied 0 given 0 got 0 line_asks 6 line_given 0 line_got 0 sent_units 0 got_units 0 sleeps 1 wakes 0";
 
-/// The report of four queens where the first of 64 places does all in one batch, and then asks its lines.
+/// The report of four queens where the first of 64 places does all in one batch, and then asks its
+/// lines.
 fn lone_report(alloc: Global) -> Result<String, AllocError> {
     let mut report = format!(in alloc;
         "queens 4\nitems 17\nplacements 2\nplaces 64\nplace 0 items 17 {SIX_LINES}\n"
@@ -137,7 +138,7 @@ fn three_places_count_six_queens(rt: HostRuntime) -> Result<(), Fail> {
         tries: 1,
         base: 2,
         seed: 0,
-        limit: 153,
+        limit: 1099511627776,
     };
     let roots = vec![in alloc;
         vec![in alloc; queens.root()]?,

@@ -1,11 +1,10 @@
 use Rattle.std.proofs.Common.{◌≡◌, ◌≤◌, ◌-◌, length, vec_len}
-use Rattle.glb_run.specs.Ends.{stream, Reads}
+use Rattle.glb_run.specs.Streams.{change, Reads}
 use Rattle.glb_run.proofs.reading.read_all.Given as goal
 
 abbrev pub invariant-loop-input : goal.invariant-loop-input
 invariant-loop-input g l = record {
-  reads : Reads l.input.items (stream (g.S.Source.left l.fn.source) (g.S.Source.faults l.fn.source))
-      (stream (g.S.Source.left l.source) (g.S.Source.faults l.source));
+  reads : Reads l.input.items (change g.S.Source.left g.S.Source.faults l.fn.source l.source);
   within : length l.input.items ≤ 16777216;
   piece : length l.piece ≡ 8192;
 }

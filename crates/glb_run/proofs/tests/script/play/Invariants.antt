@@ -1,4 +1,4 @@
-use Rattle.glb_core.specs.ItemEffects.{AllFit}
+use Rattle.glb_core.specs.Standing.{AllFit}
 use Rattle.glb_run.proofs.tests.script.play.Given as goal
 
 abbrev pub invariant-loop-event : goal.invariant-loop-event

@@ -1,0 +1,235 @@
+//! The program as one call, in stages: read the words, prepare the task, run it, and write its
+//! report or tell of the refusal.
+ghost use Rattle.std.specs.Prelude.{◌≡◌, ◌<◌, ◌^◌, List, ℕ, length, false, true, IfOk, IfErr};
+ghost use Rattle.glb_graph.specs.Reading.{IsTextOf};
+ghost use Rattle.glb_words.specs.Words.{texts_of};
+ghost use Rattle.glb_run.specs.Orders.{OrderFits};
+ghost use Rattle.glb_run.specs.Streams.{change, ReadsAll};
+ghost use Rattle.glb_run.specs.Ends.{HasRun, IsTold, Ends};
+ghost use Rattle.glb_run.specs.Completeness.{IsComplete};
+ghost use Rattle.glb_run.specs.inner.Stops.{Wrote, Finishes, GivesNoGraph, status_of as status_for};
+ghost use Rattle.glb_run.specs.inner.Stops.{graph_status, read_status};
+ghost use Rattle.glb_run.specs.inner.Tasks.{IsPrepared, IsUnprepared, TaskFits};
+
+use super::fault_text::fault_line;
+use super::gate::Gate;
+use super::job::{Task, report_calm};
+use super::order::{Order, read_words};
+use super::reading::{ReadStop, read_all};
+use super::status::{GraphKind, Status};
+use glb_graph::{Graph, GraphFault, read_graph};
+use glb_io::{Sink, Source};
+use glb_tree::RunFault;
+use glb_words::{Job, OrderFault};
+use std::alloc::Global;
+use std::sync::Wait;
+use std::thread::Threads;
+
+fn read_status(stop: ReadStop) -> Status
+    ensures { result ≡ read_status stop }
+{
+    match stop {
+        ReadStop::Fault => Status::ReadFault,
+        ReadStop::TooLong => Status::TooLong,
+        ReadStop::NoMemory => Status::NoMemory,
+    }
+}
+
+fn graph_status(fault: GraphFault) -> Status
+    ensures { result ≡ graph_status fault }
+{
+    match fault {
+        GraphFault::BadLine { line } => Status::BadGraph {
+            kind: GraphKind::BadLine,
+            line,
+        },
+        GraphFault::TooLarge { line } => Status::BadGraph {
+            kind: GraphKind::TooLarge,
+            line,
+        },
+        GraphFault::BadEnd { line } => Status::BadGraph {
+            kind: GraphKind::BadEnd,
+            line,
+        },
+        GraphFault::NoMemory => Status::NoMemory,
+    }
+}
+
+fn status_of(fault: RunFault) -> Status
+    ensures { result ≡ status_for fault }
+{
+    match fault {
+        RunFault::TooMany { items } => Status::TooMany { items },
+        RunFault::NoMemory => Status::NoMemory,
+    }
+}
+
+/// The graph that the source gives. Its text is let go.
+fn take_graph<S: Source>(alloc: Global, source: &mut S) -> Result<Graph, Status>
+    ensures graph { IfOk result (λ rows. (input : List ℕ) × IsTextOf input rows × ReadsAll input
+        (change S.left S.faults source.old source.new)) }
+    ensures stops { IfErr result (GivesNoGraph
+        (change S.left S.faults source.old source.new)) }
+{
+    let input = match read_all(alloc, source) {
+        Ok(input) => input,
+        Err(stop) => return Err(read_status(stop)),
+    };
+    match read_graph(alloc, &input) {
+        Ok(graph) => Ok(graph),
+        Err(fault) => Err(graph_status(fault)),
+    }
+}
+
+/// What the order has to run, with what the source gives for it.
+fn prepare<S: Source>(alloc: Global, order: &Order, source: &mut S) -> Result<Task, Status>
+    requires { OrderFits order.now }
+    ensures task { IfOk result (IsPrepared order.now
+        (change S.left S.faults source.old source.new)) }
+    ensures fits { IfOk result TaskFits }
+    ensures stops { IfErr result (IsUnprepared order.now
+        (change S.left S.faults source.old source.new)) }
+{
+    match order.job {
+        Job::Queens { n } => Ok(Task::Queens { n }),
+        Job::Uts { b0, m, q, seed } => Ok(Task::Uts { b0, m, q, seed }),
+        Job::Dist => match take_graph(alloc, source) {
+            Ok(graph) => Ok(Task::Dist { graph }),
+            Err(status) => Err(status),
+        },
+    }
+}
+
+/// Writes a report by one call.
+fn write_report<K: Sink>(report: &[u8], out: &mut K) -> Status
+    ensures { Wrote K.one_call report.now
+        (change K.taken K.faults out.old out.new) result }
+{
+    match out.write_all(report) {
+        Ok(()) => Status::Done,
+        Err((_, taken)) => Status::WriteFault { taken },
+    }
+}
+
+/// Writes the report, where there is one.
+fn finish<K: Sink>(report: Result<Vec<u8>, RunFault>, out: &mut K) -> Status
+    ensures { Finishes K.one_call (λ bytes. bytes.items) report
+        (change K.taken K.faults out.old out.new) result }
+{
+    match report {
+        Ok(bytes) => write_report(&bytes, out),
+        Err(fault) => status_of(fault),
+    }
+}
+
+/// Carries an order out, all but telling of a refusal.
+fn run_order<S: Source, K: Sink>(
+    alloc: Global,
+    order: &Order,
+    source: &mut S,
+    out: &mut K,
+) -> Status
+    requires { OrderFits order.now }
+    ensures { HasRun order.now K.one_call
+        (change S.left S.faults source.old source.new)
+        (change K.taken K.faults out.old out.new) result }
+{
+    match prepare(alloc, order, source) {
+        Ok(task) => finish(report_calm(alloc, &task, order), out),
+        Err(status) => status,
+    }
+}
+
+/// Tells of a refusal by one line.
+fn tell<E: Sink>(err: &mut E, limit: u64, status: Status) -> Status
+    ensures status { result ≡ status }
+    ensures told { IsTold limit E.one_call
+        (change E.taken E.faults err.old err.new) status }
+{
+    match status {
+        Status::Done => {}
+        _ => {
+            let line = fault_line(limit, status);
+            let _told = err.write_all(line.as_str().as_bytes());
+        }
+    }
+    status
+}
+
+/// The whole program.
+fn run_words<S: Source, K: Sink, E: Sink>(
+    alloc: Global,
+    words: &[String],
+    calm: bool,
+    source: &mut S,
+    out: &mut K,
+    err: &mut E,
+) -> Status
+    requires { length words.now < 2 ^ 32 }
+    ensures { Ends calm (texts_of words.now)
+        K.one_call E.one_call
+        (change S.left S.faults source.old source.new)
+        (change K.taken K.faults out.old out.new)
+        (change E.taken E.faults err.old err.new) result }
+{
+    match read_words(alloc, words, calm) {
+        Ok(order) => {
+            let status = run_order(alloc, &order, source, out);
+            tell(err, order.params.limit, status)
+        }
+        Err(OrderFault::Bad(fault)) => {
+            let status = Status::BadWords {
+                kind: fault.kind,
+                word: fault.word,
+            };
+            tell(err, 0, status)
+        }
+        Err(OrderFault::NoMemory) => tell(err, 0, Status::NoMemory),
+    }
+}
+
+/// Does all that the program does: reads the words, the source where the job has a graph, runs the
+/// job, and writes its report. The first refusal ends it, and goes to `err` as one line. The gate
+/// is for jobs that run in threads.
+pub fn top<R: Threads + Wait, S: Source, K: Sink, E: Sink, G: Gate>(
+    _rt: &R,
+    alloc: Global,
+    words: &[String],
+    source: &mut S,
+    out: &mut K,
+    err: &mut E,
+    _gate: &G,
+) -> Status
+    requires { length words.now < 2 ^ 32 }
+    ensures ends { Ends false (texts_of words.now)
+        K.one_call E.one_call
+        (change S.left S.faults source.old source.new)
+        (change K.taken K.faults out.old out.new)
+        (change E.taken E.faults err.old err.new) result }
+    ensures complete { IsComplete false (texts_of words.now)
+        (change S.left S.faults source.old source.new)
+        (change K.taken K.faults out.old out.new) result }
+{
+    run_words(alloc, words, false, source, out, err)
+}
+
+/// The same without threads: it always returns.
+pub fn top_calm<S: Source, K: Sink, E: Sink>(
+    alloc: Global,
+    words: &[String],
+    source: &mut S,
+    out: &mut K,
+    err: &mut E,
+) -> Status
+    requires { length words.now < 2 ^ 32 }
+    ensures ends { Ends true (texts_of words.now)
+        K.one_call E.one_call
+        (change S.left S.faults source.old source.new)
+        (change K.taken K.faults out.old out.new)
+        (change E.taken E.faults err.old err.new) result }
+    ensures complete { IsComplete true (texts_of words.now)
+        (change S.left S.faults source.old source.new)
+        (change K.taken K.faults out.old out.new) result }
+{
+    run_words(alloc, words, true, source, out, err)
+}
