@@ -19,6 +19,7 @@ mod limits;
 mod memory;
 mod monoid;
 mod program;
+mod ranged;
 mod sat_sum;
 mod tallies;
 
@@ -29,5 +30,6 @@ pub use limits::{MOST_BATCH, MOST_ITEMS};
 pub use memory::NoMemory;
 pub use monoid::Monoid;
 pub use program::Program;
+pub use ranged::Ranged;
 pub use sat_sum::SatSum;
 pub use tallies::Tallies;
