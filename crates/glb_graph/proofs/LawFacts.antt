@@ -8,7 +8,8 @@ use Rattle.std.specs.List.{flat_map}
 use Rattle.std.proofs.lemmas.Grind.{flat_map-append}
 use Rattle.glb_laws.specs.Tree.{tree, forest, IsSmall, nodes}
 use Rattle.glb_graph.specs.Rows.{targets_of, targets_from, graph_of, edges_of, IsGraph}
-use Rattle.glb_graph.specs.inner.Compressed.{earlier, ArePairs}
+use Rattle.glb_graph.specs.Rows.{ArePairs}
+use Rattle.glb_graph.specs.inner.Compressed.{earlier}
 use Rattle.glb_graph.specs.Walks.{Walk, IsDistance}
 use Rattle.glb_graph.specs.Distances.{distance}
 use Rattle.glb_graph.specs.Spots.{spots, spot_children}

@@ -9,3 +9,4 @@ pub mod ReadFacts
 pub mod LawFacts
 pub mod SumFacts
 pub mod AnswerFacts
+pub mod VerticesByNumber

@@ -3,7 +3,7 @@ use Rattle.std.proofs.Common.{◌≡◌, ℕ, zero, suc, ◌+◌, ◌-◌, ◌<�
 use Rattle.std.proofs.Common.{length, inl, inr, refl, sym, ◌∙◌, ap, subst, arith, append-nil}
 use Rattle.std.proofs.Common.{append_assoc}
 use Rattle.glb_graph.specs.Rows.{graph_of}
-use Rattle.glb_graph.specs.inner.Compressed.{ArePairs}
+use Rattle.glb_graph.specs.Rows.{ArePairs}
 use Rattle.glb_graph.proofs.PairFacts.{length-graph_of}
 use Rattle.glb_graph.specs.GraphText.{BadLine, TooLarge, BadEnd, Reading, Edges, Fault, lines_of}
 use Rattle.glb_graph.specs.GraphText.{IsPair, IsEdge, with_edge, EdgeLinesSay, LinesSay, BytesSay}

@@ -21,7 +21,7 @@ pub enum Spot {
 /// others it reaches, the sum of their distances and the greatest of these.
 #[derive(Clone, Copy)]
 pub struct Dist<'a> {
-    graph: &'a Graph,
+    pub(crate) graph: &'a Graph,
 }
 
 /// The value of the start, from the table of the distances from it.
@@ -47,7 +47,7 @@ fn tally(table: &[u16], start: u32) -> Tallies
 }
 
 /// The value of a vertex.
-fn vertex_value(alloc: Global, graph: &Graph, start: u32) -> Result<Tallies, NoMemory>
+pub(crate) fn vertex_value(alloc: Global, graph: &Graph, start: u32) -> Result<Tallies, NoMemory>
     requires { start < length graph.now }
     ensures { IfOk result (λ v. v ≡ value_of (distance graph.now start) start (length graph.now)) }
 {

@@ -3,7 +3,8 @@ ghost use Rattle.std.specs.Prelude.{◌≡◌, ℕ, ◌+◌, ◌*◌, ◌<◌, �
 ghost use Rattle.std.specs.Prelude.{None};
 ghost use Rattle.glb_laws.specs.Tree.{IsSmall, nodes, answer};
 ghost use Rattle.glb_laws.specs.Tallies.{tallies, no_tallies, join_tallies};
-ghost use Rattle.glb_graph.specs.Rows.{IsGraph, graph_of, edges_of};
+ghost use Rattle.glb_graph.specs.Rows.{IsGraph, ArePairs, graph_of, edges_of, targets_of};
+ghost use Rattle.glb_graph.specs.Rows.{targets_from};
 ghost use Rattle.glb_graph.specs.Walks.{Walk, IsDistance};
 ghost use Rattle.glb_graph.specs.Distances.{distance, reached_of, sum_of, greatest_of};
 ghost use Rattle.glb_graph.specs.Pairs.{joined_pairs, sum_of_distances, greatest_distance};
@@ -12,7 +13,7 @@ ghost use Rattle.glb_graph.specs.Spots.{spots, spot_children, spot_value};
 ghost use Rattle.glb_graph.specs.declared.dist.Spot.{Spot};
 ghost use Rattle.glb_graph.specs.declared.dist.Spot.TheVariants.{Root, Vertex};
 
-use super::limits::MOST_VERTICES;
+use super::limits::{MOST_EDGES, MOST_VERTICES};
 
 /// Each list of bytes says exactly one thing: a graph, or a fault with its line.
 pub fn bytes_say_one_thing()
@@ -27,6 +28,17 @@ pub fn text_is_of_a_graph()
     ensures vertices { (v : ℕ) (pairs : List (ℕ × ℕ)) → length (graph_of v pairs) ≡ v }
     ensures edges { (bytes : List ℕ) (v : ℕ) (pairs : List (ℕ × ℕ)) →
         BytesSay bytes (Edges v pairs) → edges_of (graph_of v pairs) ≡ length pairs }
+{}
+
+/// Pairs of vertices make a graph within the limits, which has as many edges as there are pairs;
+/// those that leave a vertex stand in the order of the pairs.
+pub fn pairs_make_a_graph()
+    ensures graph { (n : ℕ) (pairs : List (ℕ × ℕ)) → n ≤ MOST_VERTICES →
+        length pairs ≤ MOST_EDGES → ArePairs n pairs → IsGraph (graph_of n pairs) }
+    ensures edges { (n : ℕ) (pairs : List (ℕ × ℕ)) → ArePairs n pairs →
+        edges_of (graph_of n pairs) ≡ length pairs }
+    ensures targets { (n v : ℕ) (pairs : List (ℕ × ℕ)) → v < n →
+        targets_of (graph_of n pairs) v ≡ targets_from pairs v }
 {}
 
 /// The distance is the least number of edges of a walk, and is missing where there is none.

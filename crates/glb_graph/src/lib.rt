@@ -5,6 +5,7 @@ mod dist;
 mod graph;
 pub mod laws;
 mod limits;
+mod ranged;
 mod search;
 #[cfg(test)]
 mod tests;

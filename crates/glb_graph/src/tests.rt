@@ -1,6 +1,7 @@
-use super::{Dist, GraphFault, Spot, read_graph};
+use super::{Dist, Graph, GraphFault, Spot, read_graph};
 use glb_laws::{Monoid, Program};
 use std::alloc::Global;
+use std::test::Fail;
 
 fn fault_of(alloc: Global, text: &str) -> Option<GraphFault> {
     match read_graph(alloc, text.as_bytes()) {
@@ -59,6 +60,25 @@ fn the_targets_stand_in_the_order_of_the_edges(rt: HostRuntime) {
         assert_eq!(rt; graph.out(2), [3, 2, 0].as_slice());
         assert_eq!(rt; graph.out(3), [].as_slice());
     }
+}
+
+#[test]
+fn a_pair_makes_the_graph_of_its_text(rt: HostRuntime) -> Result<(), Fail> {
+    let alloc: Global = rt.alloc();
+    let pairs = vec![in alloc; (0, 1)]?;
+    let Ok(made) = Graph::from_pairs(alloc, 2, pairs) else {
+        panic!(rt; "memory is ample");
+    };
+    let Ok(read) = read_graph(alloc, b"2 1\n0 1\n") else {
+        panic!(rt; "this is graph text");
+    };
+    assert_eq!(rt; made.vertices(), read.vertices());
+    assert_eq!(rt; made.edges(), read.edges());
+    if made.vertices() == 2 && read.vertices() == 2 {
+        assert_eq!(rt; made.out(0), read.out(0));
+        assert_eq!(rt; made.out(1), read.out(1));
+    }
+    Ok(())
 }
 
 /// The number of items, of pairs, the sum and the greatest of the distances.

@@ -1,5 +1,5 @@
 //! Words out of a parent's bytes, and bytes of a digest out of a lane.
-ghost use Rattle.std.specs.Prelude.{◌≡◌, ◌+◌, ◌<◌, ◌≤◌};
+ghost use Rattle.std.specs.Prelude.{◌≡◌, ◌+◌, ◌<◌, ◌≤◌, length};
 ghost use Rattle.sha1.specs.Sha1.{word_at, digest_bytes};
 ghost use Rattle.glb_lanes.specs.inner.Lanes.{lane};
 
@@ -12,6 +12,11 @@ pub(crate) fn word(bytes: &[u8; 20], at: usize) -> u32
 {
     u32::from_be_bytes([bytes[at], bytes[at + 1], bytes[at + 2], bytes[at + 3]])
 }
+
+/// Does nothing: a caller learns the length of an element.
+pub(crate) fn twenty(_bytes: &[u8; 20])
+    ensures { length _bytes.now ≡ 20 }
+{}
 
 /// The digest in one lane.
 pub(crate) fn digest<const N: usize>(state: &[Simd<u32, N>; 5], place: usize) -> [u8; 20]

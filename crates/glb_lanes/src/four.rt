@@ -1,11 +1,12 @@
 //! Four digests at a time, in about half the time of eight. One vector a word leaves registers
 //! free, so the words are laid out beside the rounds: neither has to wait for the other.
-ghost use Rattle.std.specs.Prelude.{◌≡◌, ℕ, List, ◌+◌, ◌^◌, ◌<◌, ◌≤◌, [], ◌++◌, slice_index_or};
+ghost use Rattle.std.specs.Prelude.{◌≡◌, ℕ, List, ◌+◌, ◌^◌, ◌<◌, ◌≤◌, [], ◌++◌};
+ghost use Rattle.std.specs.Prelude.{length, slice_index, slice_index_or};
 ghost use Rattle.std.specs.Int.{w32, to_be_bytes};
-ghost use Rattle.sha1.specs.Sha1.{sha1, compress, initial_hash, padding};
+ghost use Rattle.sha1.specs.Sha1.{sha1, compress, initial_hash, padding, word_at, digest_bytes};
 ghost use Rattle.glb_lanes.specs.inner.Lanes.{lane, IsBlock};
 
-use super::bytes::{digest, word};
+use super::bytes::{digest, twenty, word};
 use super::rounds::{add, choose_five, last_five, majority_five, parity_five};
 use super::words::{lay_first, lay_five, lay_next};
 use std::simd::u32x4;
@@ -40,6 +41,63 @@ fn blocks(parent: &[u8; 20], first: u32) -> [u32x4; 16]
         zero,
         zero,
         u32x4::splat(192),
+    ]
+}
+
+/// The word at a byte of each parent.
+fn words_at(parents: &[[u8; 20]; 4], at: usize) -> u32x4
+    requires { at + 4 ≤ 20 }
+    ensures { (j : ℕ) → j < 4
+        → slice_index result j ≡ word_at (slice_index_or parents.now j []) at }
+{
+    let w0 = word(&parents[0], at);
+    let w1 = word(&parents[1], at);
+    let w2 = word(&parents[2], at);
+    let w3 = word(&parents[3], at);
+    u32x4::from_array([w0, w1, w2, w3])
+}
+
+/// Does nothing: a caller learns that each parent has 20 bytes.
+fn known(parents: &[[u8; 20]; 4])
+    ensures { (j : ℕ) → j < 4 → length (slice_index_or parents.now j []) ≡ 20 }
+{
+    twenty(&parents[0]);
+    twenty(&parents[1]);
+    twenty(&parents[2]);
+    twenty(&parents[3]);
+}
+
+/// The block of a parent and its number in each lane.
+fn blocks_of(parents: &[[u8; 20]; 4], numbers: &[u32; 4]) -> [u32x4; 16]
+    ensures { (j : ℕ) → j < 4
+        → IsBlock (slice_index_or parents.now j []
+        ++ (to_be_bytes w32 (slice_index numbers.now j) ++ padding 24)) (lane j result) }
+{
+    known(parents);
+    let w0 = words_at(parents, 0);
+    let w1 = words_at(parents, 4);
+    let w2 = words_at(parents, 8);
+    let w3 = words_at(parents, 12);
+    let w4 = words_at(parents, 16);
+    let zero = u32x4::splat(0);
+    let bits = u32x4::splat(192);
+    [
+        w0,
+        w1,
+        w2,
+        w3,
+        w4,
+        u32x4::from_array(*numbers),
+        u32x4::splat(0x8000_0000),
+        zero,
+        zero,
+        zero,
+        zero,
+        zero,
+        zero,
+        zero,
+        zero,
+        bits,
     ]
 }
 
@@ -86,6 +144,18 @@ fn compress(start: [u32x4; 16]) -> [u32x4; 5]
     [s0, s1, s2, s3, s4]
 }
 
+/// The digest in each lane.
+fn digests_of(state: &[u32x4; 5]) -> [[u8; 20]; 4]
+    ensures { (j : ℕ) → j < 4
+        → slice_index_or result j [] ≡ digest_bytes (lane j state.now) 5 }
+{
+    let d0 = digest(state, 0);
+    let d1 = digest(state, 1);
+    let d2 = digest(state, 2);
+    let d3 = digest(state, 3);
+    [d0, d1, d2, d3]
+}
+
 /// The digests of the parent followed by each of the four numbers from `first` on.
 pub fn children(parent: &[u8; 20], first: u32) -> [[u8; 20]; 4]
     requires { first + 4 ≤ 2 ^ 32 }
@@ -93,9 +163,15 @@ pub fn children(parent: &[u8; 20], first: u32) -> [[u8; 20]; 4]
         → slice_index_or result j [] ≡ sha1 (parent.now ++ to_be_bytes w32 (first + j)) }
 {
     let state = compress(blocks(parent, first));
-    let d0 = digest(&state, 0);
-    let d1 = digest(&state, 1);
-    let d2 = digest(&state, 2);
-    let d3 = digest(&state, 3);
-    [d0, d1, d2, d3]
+    digests_of(&state)
+}
+
+/// The digests of four parents, each followed by its number.
+pub fn digests(parents: &[[u8; 20]; 4], numbers: &[u32; 4]) -> [[u8; 20]; 4]
+    ensures { (j : ℕ) → j < 4 → slice_index_or result j []
+        ≡ sha1 (slice_index_or parents.now j [] ++ to_be_bytes w32 (slice_index numbers.now j)) }
+{
+    known(parents);
+    let state = compress(blocks_of(parents, numbers));
+    digests_of(&state)
 }

@@ -1,3 +1,4 @@
+pub mod ChildrenAsked
 pub mod ChildrenInARow
 pub mod Messages
 pub mod TreeTotals

@@ -44,7 +44,7 @@ All-flat_map P f (x ∷ xs) h =
 
 module _ (uts : Uts) where
   -- there are as many children as the node's draw says
-  length-children : (node : Node) → length (children uts node) ≡ fan uts node
+  pub length-children : (node : Node) → length (children uts node) ≡ fan uts node
   unfolding children
   length-children node =
       length-map (range_with_len 0 (fan uts node)) (child node)

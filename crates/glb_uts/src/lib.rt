@@ -4,6 +4,7 @@
 
 mod children;
 mod node;
+mod ranged;
 #[cfg(test)]
 mod tests;
 mod uts;

@@ -54,7 +54,15 @@ impl Uts {
         Node::root(self.seed)
     }
 
-    fn fan(&self, node: &Node) -> u32
+    /// No node has more children.
+    pub(crate) fn widest(&self) -> u32
+        ensures root { self.now.b0 ≤ result }
+        ensures others { self.now.m ≤ result }
+    {
+        self.b0.max(self.m)
+    }
+
+    pub(crate) fn fan_of(&self, node: &Node) -> u32
         ensures { result ≡ fan self.now node.now }
     {
         if node.depth >= 1 << 41 {
@@ -81,7 +89,7 @@ impl Program for Uts {
     ghost value = { value_of };
 
     fn expand(&self, node: &Node, out: &mut Vec<Node>) -> Result<Self::Value, NoMemory> {
-        let fan = self.fan(node);
+        let fan = self.fan_of(node);
         push_children(node, fan, out)?;
         Ok(node_value(node.depth, fan))
     }
@@ -90,7 +98,7 @@ impl Program for Uts {
 }
 
 /// One node, and a leaf where it has no children.
-fn node_value(depth: u64, fan: u32) -> Both<SatSum, Both<SatSum, Greatest>>
+pub(crate) fn node_value(depth: u64, fan: u32) -> Both<SatSum, Both<SatSum, Greatest>>
     ensures { result ≡ both (sat_sum 1)
         (both (sat_sum (cond (fan == 0) 1 0)) (greatest (min depth (2 ^ 64 - 1)))) }
 {

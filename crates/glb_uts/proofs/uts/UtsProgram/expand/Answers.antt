@@ -10,11 +10,11 @@ unfolding children
 returns-clause-appended c =
     c.in_ok-push_children.ensures.appended
     ∙ ap (λ n. c.args.out.now.items
-    ++ map (child c.args.node.now) (range_with_len 0 n)) c.fan-fan.ensures
+    ++ map (child c.args.node.now) (range_with_len 0 n)) c.fan_of-fan.ensures
 
 pub returns-clause-value : goal.returns-clause-value
 returns-clause-value c =
     c.node_value.ensures
     ∙ ap (λ n. both (sat_sum 1)
     (both (sat_sum (cond (n == 0) 1 0)) (greatest (min c.args.node.now.depth (2 ^ 64 - 1)))))
-    c.fan-fan.ensures
+    c.fan_of-fan.ensures
