@@ -1,0 +1,130 @@
+-- Children that are asked for together, and made.
+use Rattle.std.proofs.Common.{◌≡◌, ℕ, zero, suc, ◌+◌, ◌<◌, ◌≤◌, ◌++◌, ◌∷◌, [], List, length, take, drop, get_or, Some, map, refl, sym, ap, ap₂, subst, ◌∙◌, arith, append-nil, length-append, slice_get, take-append-drop}
+use Rattle.std.specs.List.{range_with_len}
+use Rattle.std.proofs.lemmas.List.{map-append, drop_more, take_all, take_at}
+use Rattle.std.proofs.lemmas.List.FromFn.{length-map-range_with_len, get_or-map-range_with_len}
+use Rattle.std.proofs.lemmas.Option.{slice_get-get_or}
+use Rattle.glb_bags.specs.declared.entry.Entry.{Entry}
+use Rattle.glb_bags.specs.declared.entry.Entry.TheVariants.{Range}
+use Rattle.glb_bags.specs.Ranges.{AllWhole, IsKept, all_items, all_made}
+use Rattle.glb_bags.specs.inner.Entries.{IsReady, IsAsked}
+use Rattle.glb_bags.proofs.RangesOfChildren.{AllWhole-append, AllWhole-left, AllWhole-right, all_items-append, all_made-append, empty_range, last_known}
+
+-- lists are equal where what is read of them is
+pub same_when_read : {X : Type 0} (xs ys : List X) → map Some xs ≡ map Some ys → xs ≡ ys
+same_when_read [] [] e = refl
+same_when_read [] (y ∷ ys) e = cc
+same_when_read (x ∷ xs) [] e = cc
+same_when_read (x ∷ xs) (y ∷ ys) e =
+    let tails : map Some xs ≡ map Some ys = cc in
+    let heads : x ≡ y = cc in
+    ap₂ (λ a as'. a ∷ as') heads (same_when_read xs ys tails)
+
+-- the elements of a list from a place on, read one by one
+read_in_a_row : {X : Type 0} (xs : List X) (d : X) (from count : ℕ) → from + count ≤ length xs
+    → map Some (take count (drop from xs)) ≡ map (slice_get xs) (range_with_len from count)
+read_in_a_row xs d from zero within = refl
+read_in_a_row xs d from (suc count) within =
+    ap (λ l. map Some (take (suc count) l)) (drop_more xs from d (omega arith))
+    ∙ ap₂ (λ o l. o ∷ l) (sym (slice_get-get_or xs from d (omega arith)))
+    (read_in_a_row xs d (from + 1) count (omega arith))
+
+-- the children of a parent are read by their numbers
+read_of_asked : {X : Type 0} (children : X → List X) (parent : X) (ns : List ℕ)
+    → map (λ a. slice_get (children a.0) a.1) (map (λ n. let a : X × ℕ = (parent, n) in a) ns)
+    ≡ map (slice_get (children parent)) ns
+read_of_asked children parent [] = refl
+read_of_asked children parent (n ∷ ns) =
+    ap (λ l. slice_get (children parent) n ∷ l) (read_of_asked children parent ns)
+
+module _ {X : Type 0} (children : X → List X) where
+  -- the last children of the last entry are asked for
+  pub asked_of_last : (old new front : List (Entry X)) (asked : List (X × ℕ)) (parent : X)
+      (first made end count from : ℕ) → AllWhole children old
+      → old ≡ front ++ Range parent first made end ∷ []
+      → new ≡ front ++ Range parent first from end ∷ []
+      → end ≤ made → 1 ≤ count → first ≤ from → from + count ≡ made
+      → asked ≡ map (λ n. (parent, n)) (range_with_len from count)
+      → IsAsked children old new asked
+  asked_of_last old new front asked parent first made end count from whole o n none some low all a =
+      let xs : List X = children parent in
+      let before = subst (AllWhole children) o whole in
+      let left = AllWhole-left children front (Range parent first made end ∷ []) before in
+      let last = (AllWhole-right children front (Range parent first made end ∷ []) before).0 in
+      let full : from + count ≡ end = omega (arith, last.2) in
+      let nothing : all_made children old ≡ all_made children front =
+      ap (all_made children) o
+      ∙ all_made-append children front (Range parent first made end ∷ [])
+      ∙ ap (λ l. all_made children front ++ l)
+      (append-nil _ ∙ empty_range xs made end none)
+      ∙ append-nil _ in
+      let group : all_made children new
+      ≡ all_made children front ++ take count (drop from xs) =
+      ap (all_made children) n
+      ∙ all_made-append children front (Range parent first from end ∷ [])
+      ∙ ap (λ l. all_made children front ++ l)
+      (append-nil _ ∙ ap (λ k. take k (drop from xs)) (omega arith)) in
+      record {
+        whole = subst (AllWhole children) (sym n)
+            (AllWhole-append children front (Range parent first from end ∷ []) left
+            ((last.0, low, omega arith, last.3), tt));
+        count = omega (
+          arith,
+          ap length o,
+          ap length n,
+          length-append front (Range parent first made end ∷ []),
+          length-append front (Range parent first from end ∷ []),
+        );
+        same = ap (all_items children) n
+            ∙ all_items-append children front (Range parent first from end ∷ [])
+            ∙ sym (all_items-append children front (Range parent first made end ∷ []))
+            ∙ sym (ap (all_items children) o);
+        numbers = λ k d lt.
+            let within : k < count =
+            omega (
+              arith,
+              ap length a,
+              length-map-range_with_len {X = X × ℕ} (λ i. (parent, i)) from count,
+            ) in
+            let is : get_or asked k d ≡ (parent, from + k) =
+            ap (λ l. get_or l k d) a
+            ∙ get_or-map-range_with_len {X = X × ℕ} (λ i. (parent, i)) from count k (from + k) d within
+            refl in
+            subst (λ b. b.1 < length (children b.0)) (sym is) (omega (arith, last.3));
+        made_is = ap (map Some) group
+            ∙ map-append Some (all_made children front) (take count (drop from xs))
+            ∙ ap₂ (λ l m. l ++ m) (ap (map Some) (sym nothing))
+            (read_in_a_row xs parent from count (omega (arith, last.3))
+            ∙ sym (read_of_asked children parent (range_with_len from count))
+            ∙ sym (ap (map (λ b. slice_get (children b.0) b.1)) a));
+        ready = λ e read.
+            subst IsReady (sym (last_known new front (Range parent first from end) e n read).0)
+            (omega arith);
+      }
+
+  -- what was asked for and made is kept
+  pub kept_with_group : (old new : List (Entry X)) (asked : List (X × ℕ))
+      (made group after : List X)
+      → IsKept children old made → IsAsked children old new asked
+      → map Some group ≡ map (λ a. slice_get (children a.0) a.1) asked → after ≡ made ++ group
+      → IsKept children new after
+  kept_with_group old new asked made group after kept is given after_is = record {
+    whole = is.whole;
+    made_is = same_when_read after (all_made children new)
+        (ap (map Some) after_is ∙ map-append Some made group
+        ∙ ap₂ (λ l m. l ++ m) (ap (map Some) kept.made_is) given
+        ∙ sym is.made_is);
+  }
+
+-- a group that was written behind what is made
+pub put_behind : {X : Type 0} (made resized into fill : List X) (place more n : ℕ)
+    → length made ≡ place → resized ≡ take (place + more) made ++ fill
+    → take place into ≡ take place resized → length into ≡ n
+    → take n (into ++ drop (length into) resized) ≡ made ++ drop place into
+put_behind made resized into fill place more n long grown before size =
+    take_at into (drop (length into) resized) n size
+    ∙ sym (take-append-drop place into)
+    ∙ ap (λ l. l ++ drop place into)
+    (before ∙ ap (take place) grown
+    ∙ ap (λ l. take place (l ++ fill)) (take_all (place + more) made (omega arith))
+    ∙ take_at made fill place long)

@@ -1,0 +1,27 @@
+use Rattle.std.proofs.Common.{◌++◌, ◌∙◌, ap, ap₂, sym, subst}
+use Rattle.std.specs.List.Sorted.{IsPermutation}
+use Rattle.glb_bags.specs.Ranges.{all_items, IsKept}
+use Rattle.glb_bags.proofs.range_bag.RangeBagBag.merge.Goals as goal
+
+pub merge_entries-requires-clause-other_kept : goal.merge_entries-requires-clause-other_kept
+merge_entries-requires-clause-other_kept g c =
+    let one =
+    ap (λ v. v.0) c.other.view_is ∙ c.requires.fits.1.1 ∙ sym c.requires.fits.1.0
+    ∙ sym (ap (λ v. v.0) c.self.view_is) in
+    subst
+    (λ p. IsKept (g.P.Program.children p) c.other.inside.entries.items c.other.inside.made.items)
+    one c.other.invariant
+
+pub returns-in_default-clause-merged : goal.returns-in_default-clause-merged
+returns-in_default-clause-merged g c =
+    let one =
+    ap (λ v. v.0) c.other.view_is ∙ c.requires.fits.1.1 ∙ sym c.requires.fits.1.0
+    ∙ sym (ap (λ v. v.0) c.self.view_is) in
+    let more = c.other.inside.entries.items in
+    subst
+    (λ l. IsPermutation l
+    (all_items (g.P.Program.children c.self.inside.program) c.merge_entries.new.entries.items))
+    (ap₂ (λ l m. l ++ m) (ap (λ v. v.1) c.self.view_is)
+    (ap (λ p. all_items (g.P.Program.children p) more) (sym one)
+    ∙ ap (λ v. v.1) c.other.view_is))
+    c.in_default.ensures.merged
