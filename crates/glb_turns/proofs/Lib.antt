@@ -6,3 +6,4 @@ pub mod HaltFacts
 pub mod PlayFacts
 pub mod BagFacts
 pub mod ReportFacts
+pub mod Numbered

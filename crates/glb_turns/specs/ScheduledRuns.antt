@@ -1,5 +1,5 @@
 -- What a run by turns reports: the end of the run of its schedule.
-use Rattle.std.specs.Prelude.{◌≡◌, ℕ, zero, suc, ◌<◌, List, [], ◌∷◌, ◌++◌, IsPermutation}
+use Rattle.std.specs.Prelude.{ℕ, zero, suc, ◌<◌, List, [], ◌∷◌, ◌++◌, IsPermutation}
 use Rattle.glb_stats.specs.declared.counters.Counters.{Counters}
 use Rattle.glb_cube.specs.Lines.{Cube}
 use Rattle.glb_rules.specs.World.{Setup}

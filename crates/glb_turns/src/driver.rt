@@ -16,7 +16,7 @@ ghost use Rattle.glb_rules.specs.Setups.{IsWithinLimits};
 ghost use Rattle.glb_turns.specs.ScheduledRuns.{IsTurnsReport};
 
 use super::bags::bags_of;
-use super::schedule::Schedule;
+use super::schedule::{Listed, Schedule};
 use super::watch::{Watch, decision_of, forget_all, notice, watches_of};
 use glb_core::{Event, Params, StepFault, World};
 use glb_laws::{Bag, Monoid, Program};
@@ -270,4 +270,32 @@ pub fn run_turns<P: Program, B: Bag<P>, S: Schedule>(
         Ok(()) => Ok(world.into_report()),
         Err(fault) => Err(fault),
     }
+}
+
+/// Plays the places by the numbers of a list and then by 0, as many as it needs. Else it is
+/// `run_turns`.
+pub fn run_listed<P: Program, B: Bag<P>>(
+    alloc: Global,
+    program: &P,
+    roots: Vec<Vec<P::Item>>,
+    params: &Params,
+    list: &[u32],
+) -> Result<Report<P::Value>, RunFault>
+    requires limits { IsWithinLimits params.now }
+    requires lists { vec_len roots ≡ params.now.places }
+    ensures ok { IfOk result (λ report.
+        IsTurnsReport (P.children program.now) (P.value program.now) P.Value.combine P.Value.unit
+        params.now (λ p. get_or (map (λ v. v.items) roots.items) p []) (λ k. get_or list.now k 0)
+        report.items report.value report.counters.items) }
+    ensures fault { IfErr result
+        (HasCause (P.children program.now)
+        (join_to params.now.places (λ p. get_or (map (λ v. v.items) roots.items) p []))
+        params.now.limit) }
+    ensures last_batch { IfErr result (PassesByAtMost params.now.batch params.now.limit) }
+{
+    let Ok(list) = Vec::from_slice(alloc, list) else {
+        return Err(RunFault::NoMemory);
+    };
+    let mut listed = Listed::new(list);
+    run_turns::<P, B, Listed>(alloc, program, roots, params, &mut listed)
 }

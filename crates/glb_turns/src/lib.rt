@@ -6,5 +6,5 @@ mod driver;
 mod schedule;
 mod watch;
 
-pub use driver::run_turns;
-pub use schedule::{Rounds, Schedule};
+pub use driver::{run_listed, run_turns};
+pub use schedule::{Listed, Rounds, Schedule};

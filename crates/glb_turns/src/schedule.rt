@@ -1,5 +1,5 @@
 //! Which place's turn it is.
-ghost use Rattle.std.specs.Prelude.{◌≡◌, ℕ, ◌+◌, ◌%◌, ◌^◌};
+ghost use Rattle.std.specs.Prelude.{◌≡◌, ℕ, ◌+◌, ◌%◌, ◌^◌, get_or};
 
 /// Numbers without end, each for one turn.
 pub trait Schedule: Drop {
@@ -36,5 +36,37 @@ impl Schedule for Rounds {
         let number = self.next;
         self.next = number.wrapping_add(1);
         number
+    }
+}
+
+/// The members of a list in their order, and 0 after the last one.
+#[derive(Debug, Drop)]
+pub struct Listed {
+    list: Vec<u32>,
+    next: usize,
+}
+
+impl Listed {
+    /// The members of the list from the first one on.
+    pub fn new(list: Vec<u32>) -> Listed
+        ensures { (k : ℕ) → ⟦<Listed as Schedule>⟧.will result k ≡ get_or list.items k 0 }
+    {
+        Listed { list, next: 0 }
+    }
+}
+
+impl Schedule for Listed {
+    ghost use Rattle.std.specs.Prelude.{◌+◌, get_or};
+
+    ghost will = { λ listed k. get_or listed.list.items (listed.next + k) 0 };
+
+    fn turn(&mut self) -> u32 {
+        match self.list.get(self.next) {
+            Some(number) => {
+                self.next += 1;
+                *number
+            }
+            None => 0,
+        }
     }
 }

@@ -1,8 +1,8 @@
-use Rattle.std.proofs.Common.{ap, ◌∙◌, length, arith}
+use Rattle.std.proofs.Common.{ap, arith}
 use Rattle.glb_cube.specs.Lines.{Cube}
 use Rattle.glb_rules.specs.World.{Setup}
 use Rattle.glb_turns.proofs.StepFacts.{leads_few, halted_played}
-use Rattle.glb_turns.proofs.HaltFacts.{halt_over, halted_already}
+use Rattle.glb_turns.proofs.HaltFacts.{halt_over}
 use Rattle.glb_turns.proofs.driver.begin_halt.Goals as goal
 
 pub returns-in-Ok-clause-in_play : goal.returns-in-Ok-clause-in_play

@@ -1,4 +1,4 @@
-use Rattle.std.proofs.Common.{◌≡◌, ◌∙◌, ◌<◌, ◌≤◌, ◌+◌, sym, subst, ap, refl, arith}
+use Rattle.std.proofs.Common.{◌≡◌, ◌∙◌, ◌<◌, ◌+◌, sym, subst, ap, refl, arith}
 use Rattle.glb_rules.specs.declared.params.Params.{Params}
 use Rattle.glb_core.specs.Tables.{WorldView}
 use Rattle.glb_tree.specs.Runs.{IsTooMany}

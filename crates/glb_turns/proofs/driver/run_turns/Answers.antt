@@ -1,5 +1,4 @@
 use Rattle.std.proofs.Common.{◌∙◌, ◌≤◌, ◌^◌, [], map, get_or, subst, ap, arith, sym}
-use Rattle.glb_rules.specs.Joins.{join_to}
 use Rattle.glb_rules.specs.declared.params.Params.{Params}
 use Rattle.glb_tree.specs.Runs.{PassesByAtMost}
 use Rattle.glb_turns.specs.inner.Watches.{HasWatches}
