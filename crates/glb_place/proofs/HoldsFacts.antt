@@ -17,7 +17,7 @@ use Rattle.glb_place.specs.declared.record.Record.{Record}
 use Rattle.glb_place.specs.Calls.{Settles}
 use Rattle.glb_place.specs.Places.{spare_items}
 use Rattle.glb_place.specs.inner.Standing.{Holds}
-use Rattle.glb_place.proofs.Cancelling.{cancels}
+use Rattle.glb_laws.proofs.Cancelling.{cancels}
 
 module _ {X V : Type 0} {IsProper : V → Type 0} {unit : V} {combine : V → V → V}
     (laws : MonoidLaws IsProper unit combine) (value : X → V)

@@ -7,7 +7,6 @@ pub mod SightLists
 pub mod DecisionFacts
 pub mod ThiefFacts
 pub mod VictimFacts
-pub mod Cancelling
 pub mod CountFacts
 pub mod SpareFacts
 pub mod AgreesFacts

@@ -1,4 +1,5 @@
-//! What a place counts.
+//! What a place counts, call by call: a place and every fabric keep counters, and each event raises
+//! them in one way. A counter stops at the last value of its type.
 ghost use Rattle.std.specs.Prelude.{◌≡◌, ℕ, ◌+◌};
 ghost use Rattle.glb_rules.specs.Effects.{of_kind, wake_count};
 ghost use Rattle.glb_core.specs.Counters.{counters_of};
@@ -7,14 +8,16 @@ ghost use Rattle.glb_rules.specs.declared.local.Counts.{Counts};
 use glb_core::{Kind, Phase};
 use glb_stats::Counters;
 
-pub(crate) fn count_items(counters: &mut Counters, done: u64)
+/// A batch expanded `done` items.
+pub fn count_items(counters: &mut Counters, done: u64)
     ensures { (n : Counts) → counters.old ≡ counters_of n
         → counters.new ≡ counters_of (record n { items = n.items + done }) }
 {
     counters.items = counters.items.saturating_add(done);
 }
 
-pub(crate) fn count_ask(counters: &mut Counters, kind: Kind)
+/// A request was made.
+pub fn count_ask(counters: &mut Counters, kind: Kind)
     ensures { (n : Counts) → counters.old ≡ counters_of n → counters.new ≡ counters_of
         (record n { asks = n.asks + of_kind kind 1 0; line_asks = n.line_asks + of_kind kind 0 1 }) }
 {
@@ -24,7 +27,8 @@ pub(crate) fn count_ask(counters: &mut Counters, kind: Kind)
     }
 }
 
-pub(crate) fn count_denied(counters: &mut Counters, kind: Kind)
+/// A request was refused.
+pub fn count_denied(counters: &mut Counters, kind: Kind)
     ensures { (n : Counts) → counters.old ≡ counters_of n
         → counters.new ≡ counters_of (record n { denied = n.denied + of_kind kind 1 0 }) }
 {
@@ -34,7 +38,8 @@ pub(crate) fn count_denied(counters: &mut Counters, kind: Kind)
     }
 }
 
-pub(crate) fn count_shrug(counters: &mut Counters, kind: Kind)
+/// A refusal was taken note of.
+pub fn count_shrug(counters: &mut Counters, kind: Kind)
     ensures { (n : Counts) → counters.old ≡ counters_of n
         → counters.new ≡ counters_of (record n { shrugs = n.shrugs + of_kind kind 1 0 }) }
 {
@@ -44,14 +49,16 @@ pub(crate) fn count_shrug(counters: &mut Counters, kind: Kind)
     }
 }
 
-pub(crate) fn count_sleep(counters: &mut Counters)
+/// The place fell asleep.
+pub fn count_sleep(counters: &mut Counters)
     ensures { (n : Counts) → counters.old ≡ counters_of n
         → counters.new ≡ counters_of (record n { sleeps = n.sleeps + 1 }) }
 {
     counters.sleeps = counters.sleeps.saturating_add(1);
 }
 
-pub(crate) fn count_given(counters: &mut Counters, kind: Kind, units: u64)
+/// A part of so many units was given.
+pub fn count_given(counters: &mut Counters, kind: Kind, units: u64)
     ensures { (n : Counts) → counters.old ≡ counters_of n → counters.new ≡ counters_of
         (record n {
           given = n.given + of_kind kind 1 0;
@@ -76,7 +83,8 @@ fn woken(phase: Phase) -> u64
     }
 }
 
-pub(crate) fn count_got(counters: &mut Counters, kind: Kind, units: u64, phase: Phase)
+/// A part of so many units was taken, by a place in this phase.
+pub fn count_got(counters: &mut Counters, kind: Kind, units: u64, phase: Phase)
     ensures { (n : Counts) → counters.old ≡ counters_of n → counters.new ≡ counters_of
         (record n {
           got = n.got + of_kind kind 1 0;
