@@ -7,3 +7,4 @@ pub mod Commands
 pub mod NumberFacts
 pub mod Ranges
 pub mod SettingFacts
+pub mod CalmFacts

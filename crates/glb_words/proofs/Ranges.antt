@@ -144,7 +144,7 @@ all_named : Each Named job_rules
 all_named = search (rules, none, more) depth 40 fits 5000
 
 -- a value that is found is taken by the row of its name
-checked_value : (rule : JobRule) (calm : Bool) (name text : Text) (given : Given)
+pub checked_value : (rule : JobRule) (calm : Bool) (name text : Text) (given : Given)
     → Checked rule calm given → given_value name given ≡ Some text
     → IsTaken calm (row_named rule name) text
 checked_value rule calm name text given h e = go (find (λ g. bytes_eq g.0 name) given) refl e

@@ -56,7 +56,12 @@ limit_rule = field_rule (codes "limit") (Number 1 (2 ^ 40) (2 ^ 40))
 
 -- what runs the job
 abbrev pub driver_rule : FieldRule
-driver_rule = field_rule (codes "driver") (Choice (codes "one" ∷ codes "turns" ∷ []))
+driver_rule = field_rule (codes "driver")
+    (Choice (codes "one" ∷ codes "turns" ∷ codes "threads" ∷ []))
+
+-- what the places of a run in threads share
+abbrev pub fabric_rule : FieldRule
+fabric_rule = field_rule (codes "fabric") (Choice (codes "inbox" ∷ codes "cells" ∷ []))
 
 -- whether the counters of the places are told
 abbrev pub stats_rule : FieldRule
@@ -68,7 +73,7 @@ run_numbers = places_rule ∷ batch_rule ∷ tries_rule ∷ base_rule ∷ seed_r
 
 -- the choices among them
 abbrev pub run_choices : List FieldRule
-run_choices = driver_rule ∷ []
+run_choices = driver_rule ∷ fabric_rule ∷ []
 
 -- the flags among them
 abbrev pub run_flags : List FieldRule
@@ -98,11 +103,16 @@ uts_q_rule = field_rule (codes "q") (Number 0 (2 ^ 31) 0)
 abbrev pub uts_seed_rule : FieldRule
 uts_seed_rule = field_rule (codes "root_seed") (Number 0 (2 ^ 32 - 1) 0)
 
+-- the number that makes the tree and the graph of a trial
+abbrev pub trial_k_rule : FieldRule
+trial_k_rule = field_rule (codes "k") (Number 0 (2 ^ 32 - 1) 0)
+
 -- the numbers of a job, in order
 abbrev pub numbers_of : JobName → List FieldRule
 numbers_of job_name.Queens = queens_n_rule ∷ []
 numbers_of job_name.Uts = uts_b0_rule ∷ uts_m_rule ∷ uts_q_rule ∷ uts_seed_rule ∷ []
 numbers_of job_name.Dist = []
+numbers_of job_name.Trial = trial_k_rule ∷ []
 
 -- placements of n queens
 abbrev pub queens_rule : JobRule
@@ -131,6 +141,15 @@ dist_rule = record {
   options = run_options;
 }
 
+-- a binomial tree and the distances in a graph, both made from one number
+abbrev pub trial_rule : JobRule
+trial_rule = record {
+  job = job_name.Trial;
+  name = codes "trial";
+  numbers = numbers_of job_name.Trial;
+  options = run_options;
+}
+
 -- the jobs that are built
 abbrev pub job_rules : List JobRule
-job_rules = queens_rule ∷ uts_rule ∷ dist_rule ∷ []
+job_rules = queens_rule ∷ uts_rule ∷ dist_rule ∷ trial_rule ∷ []

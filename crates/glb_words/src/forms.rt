@@ -7,6 +7,7 @@ pub(crate) enum JobName {
     Queens,
     Uts,
     Dist,
+    Trial,
 }
 
 /// What the text of a value may be: a number from the first to the second, where the third stands
@@ -64,11 +65,18 @@ pub(crate) const LIMIT: Field = Field {
     form: Form::Number(1, 1 << 40, 1 << 40),
 };
 
-const DRIVERS: [&'static str; 2] = ["one", "turns"];
+const DRIVERS: [&'static str; 3] = ["one", "turns", "threads"];
 
 pub(crate) const DRIVER: Field = Field {
     name: "driver",
     form: Form::Choice(&DRIVERS),
+};
+
+const FABRICS: [&'static str; 2] = ["inbox", "cells"];
+
+pub(crate) const FABRIC: Field = Field {
+    name: "fabric",
+    form: Form::Choice(&FABRICS),
 };
 
 pub(crate) const STATS: Field = Field {
@@ -77,7 +85,9 @@ pub(crate) const STATS: Field = Field {
 };
 
 /// The options of a job that has a tree.
-const RUN_OPTIONS: [Field; 8] = [PLACES, BATCH, TRIES, BASE, SEED, LIMIT, DRIVER, STATS];
+const RUN_OPTIONS: [Field; 9] = [
+    PLACES, BATCH, TRIES, BASE, SEED, LIMIT, DRIVER, FABRIC, STATS,
+];
 
 pub(crate) const QUEENS_N: Field = Field {
     name: "n",
@@ -129,5 +139,19 @@ const DIST: JobForm = JobForm {
     options: &RUN_OPTIONS,
 };
 
+pub(crate) const TRIAL_K: Field = Field {
+    name: "k",
+    form: Form::Number(0, (1 << 32) - 1, 0),
+};
+
+const TRIAL_NUMBERS: [Field; 1] = [TRIAL_K];
+
+const TRIAL: JobForm = JobForm {
+    job: JobName::Trial,
+    name: "trial",
+    numbers: &TRIAL_NUMBERS,
+    options: &RUN_OPTIONS,
+};
+
 /// The jobs that are built.
-pub(crate) const JOBS: [JobForm; 3] = [QUEENS, UTS, DIST];
+pub(crate) const JOBS: [JobForm; 4] = [QUEENS, UTS, DIST, TRIAL];

@@ -11,4 +11,4 @@ mod settings;
 mod tests;
 
 pub use fault::{OrderFault, WordFault, WordKind};
-pub use settings::{Driver, Job, Settings, read_settings};
+pub use settings::{Driver, FabricKind, Job, Settings, read_settings};

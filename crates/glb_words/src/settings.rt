@@ -1,10 +1,11 @@
 //! What the words ask for. The values are those of the matches of the job's clap command.
 ghost use Rattle.std.specs.Prelude.{◌≡◌, ◌<◌, ◌≤◌, ◌^◌, length, Ok, Err, IfOk, IfErr};
 ghost use Rattle.clap.specs.Words.{first_value, found_of};
-ghost use Rattle.glb_words.specs.Rules.{driver_rule, numbers_of};
+ghost use Rattle.glb_words.specs.Rules.{driver_rule, fabric_rule, numbers_of};
 ghost use Rattle.glb_words.specs.Words.{texts_of};
 ghost use Rattle.glb_words.specs.OrderFaults.{IsFaultOf};
 ghost use Rattle.glb_words.specs.Settings.{number_by, default_of, most_of, driver_or_one, is_on};
+ghost use Rattle.glb_words.specs.Settings.{fabric_or_cells, IsCalmIf};
 ghost use Rattle.glb_words.specs.Settings.{job_by, settings_by, IsIn, JobFits, SettingsFit};
 ghost use Rattle.glb_words.specs.Settings.{read_settings as settings_read};
 ghost use Rattle.glb_words.specs.Commands.{IsFromClap};
@@ -14,8 +15,8 @@ ghost use Rattle.glb_words.specs.inner.Ranges.{ValueFits, AllFit, ValuesFit};
 use super::command::parse;
 use super::fault::OrderFault;
 use super::forms::{
-    BASE, BATCH, DRIVER, Field, Form, JobName, LIMIT, PLACES, QUEENS_N, SEED, STATS, TRIES, UTS_B0,
-    UTS_M, UTS_Q, UTS_SEED,
+    BASE, BATCH, DRIVER, FABRIC, Field, Form, JobName, LIMIT, PLACES, QUEENS_N, SEED, STATS,
+    TRIAL_K, TRIES, UTS_B0, UTS_M, UTS_Q, UTS_SEED,
 };
 use super::reader::{number_in, read_values};
 use clap::ArgMatches;
@@ -31,6 +32,8 @@ pub enum Job {
     Uts { b0: u32, m: u32, q: u32, seed: u32 },
     /// Distances in the graph that the source gives.
     Dist,
+    /// A binomial tree and the distances in a graph, both made from `k`.
+    Trial { k: u32 },
 }
 
 /// What runs a job.
@@ -40,6 +43,17 @@ pub enum Driver {
     One,
     /// Places that take turns on one thread.
     Turns,
+    /// Places on threads.
+    Threads,
+}
+
+/// What the places of a run in threads share.
+#[derive(Clone, Copy, Debug, PartialEq, Eq)]
+pub enum FabricKind {
+    /// An inbox for each place.
+    Inbox,
+    /// A word and a slot for each edge.
+    Cells,
 }
 
 /// What the words ask for. An option that was not given has its default.
@@ -53,6 +67,7 @@ pub struct Settings {
     pub seed: u64,
     pub limit: u64,
     pub driver: Driver,
+    pub fabric: FabricKind,
     pub stats: bool,
 }
 
@@ -114,6 +129,9 @@ fn job_of(job: JobName, matches: &ArgMatches<'_>) -> Job
             seed: small_number_of(matches, UTS_SEED),
         },
         JobName::Dist => Job::Dist,
+        JobName::Trial => Job::Trial {
+            k: small_number_of(matches, TRIAL_K),
+        },
     }
 }
 
@@ -125,11 +143,29 @@ fn driver_of(matches: &ArgMatches<'_>) -> Driver
         Some(text) => {
             if text == "turns" {
                 Driver::Turns
+            } else if text == "threads" {
+                Driver::Threads
             } else {
                 Driver::One
             }
         }
         None => Driver::One,
+    }
+}
+
+/// The fabric, or that of cells.
+fn fabric_of(matches: &ArgMatches<'_>) -> FabricKind
+    ensures { result ≡ fabric_or_cells (first_value (found_of matches.now) fabric_rule.name) }
+{
+    match matches.get_str(FABRIC.name) {
+        Some(text) => {
+            if text == "inbox" {
+                FabricKind::Inbox
+            } else {
+                FabricKind::Cells
+            }
+        }
+        None => FabricKind::Cells,
     }
 }
 
@@ -148,6 +184,7 @@ fn settings_of(job: JobName, matches: &ArgMatches<'_>) -> Settings
         seed: number_of(matches, SEED),
         limit: number_of(matches, LIMIT),
         driver: driver_of(matches),
+        fabric: fabric_of(matches),
         stats: flag_of(matches, STATS),
     }
 }
@@ -158,6 +195,7 @@ pub fn read_settings(alloc: Global, words: &[String], calm: bool) -> Result<Sett
     requires { length words.now < 2 ^ 32 }
     ensures ok { IfOk result (λ s. settings_read calm (texts_of words.now) ≡ Ok s) }
     ensures fit { IfOk result SettingsFit }
+    ensures calm { IfOk result (λ s. IsCalmIf calm s.driver) }
     ensures clap { IfOk result (IsFromClap calm (texts_of words.now)) }
     ensures fault { IfErr result (IsFaultOf (settings_read calm (texts_of words.now))) }
 {

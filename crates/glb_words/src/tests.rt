@@ -1,6 +1,6 @@
 ghost use Rattle.std.specs.Prelude.{◌<◌, length, vec_len, ◌≡◌, IfOk};
 
-use super::{Driver, Job, OrderFault, Settings, WordFault, WordKind, read_settings};
+use super::{Driver, FabricKind, Job, OrderFault, Settings, WordFault, WordKind, read_settings};
 use std::alloc::{AllocError, Global};
 use std::test::Fail;
 
@@ -25,6 +25,8 @@ fn options_are_read_in_both_forms(rt: HostRuntime) -> Result<(), Fail> {
         "--batch=1",
         "--seed=18446744073709551615",
         "--stats",
+        "--fabric",
+        "inbox",
         "--driver=turns",
     ];
     let words = words_of(alloc, &texts)?;
@@ -37,6 +39,7 @@ fn options_are_read_in_both_forms(rt: HostRuntime) -> Result<(), Fail> {
         seed: 18446744073709551615,
         limit: 1099511627776,
         driver: Driver::Turns,
+        fabric: FabricKind::Inbox,
         stats: true,
     };
     assert_eq!(rt; read_settings(alloc, words.as_slice(), false), Ok(settings));
@@ -44,9 +47,75 @@ fn options_are_read_in_both_forms(rt: HostRuntime) -> Result<(), Fail> {
 }
 
 #[test]
+fn each_option_has_the_other_form(rt: HostRuntime) -> Result<(), Fail> {
+    let alloc = rt.alloc();
+    let texts = [
+        "trial",
+        "4294967295",
+        "--places=64",
+        "--batch",
+        "65536",
+        "--tries",
+        "0",
+        "--base=64",
+        "--seed",
+        "1",
+        "--limit=1000",
+        "--driver",
+        "threads",
+        "--fabric=inbox",
+    ];
+    let words = words_of(alloc, &texts)?;
+    let settings = Settings {
+        job: Job::Trial { k: 4294967295 },
+        places: 64,
+        batch: 65536,
+        tries: 0,
+        base: 64,
+        seed: 1,
+        limit: 1000,
+        driver: Driver::Threads,
+        fabric: FabricKind::Inbox,
+        stats: false,
+    };
+    assert_eq!(rt; read_settings(alloc, words.as_slice(), false), Ok(settings));
+    Ok(())
+}
+
+#[test]
+fn the_fabric_is_of_cells_unless_inboxes_are_named(rt: HostRuntime) -> Result<(), Fail> {
+    let alloc = rt.alloc();
+    let cases: [(&[&str], FabricKind); 5] = [
+        (&["queens", "8"], FabricKind::Cells),
+        (&["queens", "8", "--fabric", "cells"], FabricKind::Cells),
+        (&["queens", "8", "--fabric=cells"], FabricKind::Cells),
+        (&["queens", "8", "--fabric", "inbox"], FabricKind::Inbox),
+        (&["queens", "8", "--fabric=inbox"], FabricKind::Inbox),
+    ];
+    for (texts, fabric) in cases {
+        let words = words_of(alloc, texts)?;
+        let settings = Settings {
+            job: Job::Queens { n: 8 },
+            places: 4,
+            batch: 64,
+            tries: 1,
+            base: 2,
+            seed: 0,
+            limit: 1099511627776,
+            driver: Driver::One,
+            fabric,
+            stats: false,
+        };
+        assert!(rt; words.len() < 100);
+        assert_eq!(rt; read_settings(alloc, words.as_slice(), true), Ok(settings));
+    }
+    Ok(())
+}
+
+#[test]
 fn the_first_fault_is_told(rt: HostRuntime) -> Result<(), Fail> {
     let alloc = rt.alloc();
-    let cases: [(&[&str], WordKind, u32); 38] = [
+    let cases: [(&[&str], WordKind, u32); 45] = [
         (&[], WordKind::Missing, 0),
         (&["queen", "8"], WordKind::UnknownJob, 0),
         (&["", "8"], WordKind::UnknownJob, 0),
@@ -94,11 +163,8 @@ fn the_first_fault_is_told(rt: HostRuntime) -> Result<(), Fail> {
         ),
         (&["queens", "8", "--driver", "two"], WordKind::BadChoice, 3),
         (&["queens", "8", "--driver=turn"], WordKind::BadChoice, 2),
-        (
-            &["queens", "8", "--driver", "threads"],
-            WordKind::BadChoice,
-            3,
-        ),
+        (&["queens", "8", "--driver", "threads"], WordKind::Calm, 3),
+        (&["queens", "8", "--driver=threads"], WordKind::Calm, 2),
         (&["queens", "8", "--stats=1"], WordKind::UnknownOption, 2),
         (
             &["queens", "8", "--stats", "--stats"],
@@ -106,13 +172,23 @@ fn the_first_fault_is_told(rt: HostRuntime) -> Result<(), Fail> {
             3,
         ),
         (
-            &["queens", "8", "--fabric", "cells"],
-            WordKind::UnknownOption,
-            2,
+            &["queens", "8", "--fabric", "lanes"],
+            WordKind::BadChoice,
+            3,
         ),
+        (&["queens", "8", "--fabric=lanes"], WordKind::BadChoice, 2),
+        (&["queens", "8", "--fabric"], WordKind::Missing, 3),
+        (
+            &["queens", "8", "--fabric=inbox", "--fabric", "inbox"],
+            WordKind::Repeated,
+            3,
+        ),
+        (&["trial"], WordKind::Missing, 1),
+        (&["trial", "4294967296"], WordKind::OutOfRange, 1),
+        (&["trial", "7", "8"], WordKind::UnknownOption, 2),
         (&["uts", "3", "8", "0"], WordKind::Missing, 4),
         (&["dist", "1"], WordKind::UnknownOption, 1),
-        (&["trial", "7"], WordKind::UnknownJob, 0),
+        (&["knap"], WordKind::UnknownJob, 0),
     ];
     for (texts, kind, word) in cases {
         let words = words_of(alloc, texts)?;
