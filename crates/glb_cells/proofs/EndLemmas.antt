@@ -1,0 +1,5 @@
+-- The end of the table.
+pub mod Popped
+pub mod Ending
+pub mod Closing
+pub mod Histories

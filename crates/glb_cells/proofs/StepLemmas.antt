@@ -1,0 +1,22 @@
+-- Each kind of step keeps the rule, and takes the world that is shown on as its row says.
+pub mod ListFacts
+pub mod EdgeFacts
+pub mod Shown
+pub mod Keeps
+pub mod Reading
+pub mod Owning
+pub mod Standing
+pub mod Asking
+pub mod Giving
+pub mod Moving
+pub mod Counts
+pub mod Counting
+pub mod Stopping
+pub mod Shrugging
+pub mod Seating
+pub mod Dealing
+pub mod Unique
+pub mod Calls
+pub mod Told
+pub mod Counted
+pub mod Followed

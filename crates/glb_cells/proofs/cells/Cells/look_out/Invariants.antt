@@ -1,0 +1,5 @@
+use Rattle.glb_rules.specs.Events.{name_of}
+use Rattle.glb_cells.proofs.cells.Cells.look_out.Given as goal
+
+abbrev pub ghosts-look_out_as : goal.ghosts-look_out_as
+ghosts-look_out_as g a = record { name = name_of a._kind a._thief a._victim }

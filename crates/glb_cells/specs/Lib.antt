@@ -1,0 +1,10 @@
+pub mod EdgeNames
+pub mod Words
+pub mod Shows
+pub mod Plays
+pub mod Starts
+pub mod Follows
+pub mod Looking
+pub mod Berths
+pub mod Ends
+pub mod inner

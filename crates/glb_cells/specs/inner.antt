@@ -1,0 +1,6 @@
+-- What private contracts cite.
+pub mod Numbers
+pub mod Ready
+pub mod Keeping
+pub mod Seats
+pub mod Raising
