@@ -1,3 +1,11 @@
+pub mod CellFacts
+pub mod CloseFacts
+pub mod GraphFacts
+pub mod InboxFacts
+pub mod PlayedFacts
 pub mod RunFacts
 pub mod ServeFacts
+pub mod SmallFacts
 pub mod TurnsFacts
+pub mod ThreadsFacts
+pub mod TrialFacts

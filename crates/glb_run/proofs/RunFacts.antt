@@ -1,12 +1,15 @@
 -- How the stages of a call make its whole.
 use Rattle.std.proofs.Common.{◌≡◌, ◌≢◌, ◌⊎◌, inl, inr, ⊎_elim, ℕ, List, ◌++◌, refl, sym, ap, ◌∙◌}
 use Rattle.std.proofs.Common.{subst, Result, Ok, Err}
-use Rattle.std.specs.Prelude.{◌≤◌, true, IfOk, IfErr, OnOk, OnErr, Option, Some, None, take, length}
+use Rattle.std.specs.Prelude.{◌≤◌, Bool, true, IfOk, IfErr, OnOk, OnErr, Option, Some, None, take, length}
 use Rattle.std.proofs.lemmas.List.{append_assoc}
 use Rattle.glb_io.specs.Bytes.{Gives, Takes}
 use Rattle.glb_io.specs.Faults.{Rose}
 use Rattle.glb_words.specs.Rules.{Text}
+use Rattle.glb_words.specs.OrderFaults.{IsFaultOf}
 use Rattle.glb_words.specs.declared.fault.WordFault.{WordFault}
+use Rattle.glb_words.specs.declared.fault.OrderFault.{OrderFault}
+use Rattle.glb_words.specs.declared.fault.OrderFault.TheVariants as order_fault
 use Rattle.glb_words.specs.declared.settings.Job.{Job}
 use Rattle.glb_words.specs.declared.settings.Job.TheVariants as job
 use Rattle.glb_tree.specs.declared.run.RunFault.{RunFault}
@@ -19,10 +22,11 @@ use Rattle.glb_run.specs.declared.order.Order.{Order}
 use Rattle.glb_run.specs.declared.status.Status.{Status}
 use Rattle.glb_run.specs.declared.status.Status.TheVariants as status
 use Rattle.glb_run.specs.Streams.{Stream, Change, CallRule, IsUntouched, IsOneCall, Reads}
-use Rattle.glb_run.specs.Ends.{ReadsSource, HasRead, HasRun, StatusSays, IsTold}
+use Rattle.glb_run.specs.Orders.{read_order}
+use Rattle.glb_run.specs.Ends.{ReadsSource, HasRead, HasRun, StatusSays, IsTold, limit_of, Ends}
 use Rattle.glb_run.specs.FaultText.{fault_text}
 use Rattle.glb_run.specs.Jobs.{IsReport, IsReportOf, HasTooManyOf, tree_of, root_of}
-use Rattle.glb_run.specs.inner.Stops.{Wrote, Finishes, status_of}
+use Rattle.glb_run.specs.inner.Stops.{Wrote, Finishes, status_of, order_status}
 use Rattle.glb_run.specs.inner.Tasks.{IsTaskOf, IsPrepared, IsTaskReport, StopsTask}
 
 -- a tree, by its fields
@@ -44,6 +48,8 @@ task_report (job.Queens n) order input t text is report =
     subst (λ u. IsTaskReport u order text) is report
 task_report (job.Uts b0 m q seed) order input t text is report =
     subst (λ u. IsTaskReport u order text) is report
+task_report (job.Trial k) order input t text is report =
+    subst (λ u. IsTaskReport u order text) is report
 task_report job.Dist order input t text is report =
     (is.0, is.1, subst (λ u. IsTaskReport u order text) is.2 report)
 
@@ -53,6 +59,8 @@ task_large : (j : Job) (order : Order) (input : List ℕ) (t : Task) (items : �
 task_large (job.Queens n) order input t items is large =
     subst (λ u. StopsTask u order (run_fault.TooMany items)) is large
 task_large (job.Uts b0 m q seed) order input t items is large =
+    subst (λ u. StopsTask u order (run_fault.TooMany items)) is large
+task_large (job.Trial k) order input t items is large =
     subst (λ u. StopsTask u order (run_fault.TooMany items)) is large
 task_large job.Dist order input t items is large =
     (is.0, is.1, subst (λ u. StopsTask u order (run_fault.TooMany items)) is.2 large)
@@ -71,6 +79,7 @@ read_or_not : {S : Type 0} (j : Job) (input : List ℕ) (source : Change S) → 
     → IsUntouched source ⊎ (ReadsSource j × ((bytes : List ℕ) × Reads bytes source))
 read_or_not (job.Queens n) input source read = inl read.1
 read_or_not (job.Uts b0 m q seed) input source read = inl read.1
+read_or_not (job.Trial k) input source read = inl read.1
 read_or_not job.Dist input source read = inr (tt, (input, read.reads))
 
 -- a read without a fault after others
@@ -155,3 +164,35 @@ module _ {E : Type 0} (IsCall : CallRule E) (err : Change E) where
   told_line piece text e (Err f) called whole part within cause calm =
       subst (λ t. IsOneCall IsCall t err) e
       (inr (f.1, record { called = called; given = part; within = within; rose = cause }))
+
+module _ {S K E : Type 0} (OutCall : CallRule K) (ErrCall : CallRule E) (calm : Bool)
+    (words : List Text) (source : Change S) (out : Change K) (err : Change E) where
+  -- an order that was carried out, and what was told of it
+  pub ended_order : (order : Order) → read_order calm words ≡ Ok order → (s r : Status)
+      → HasRun order OutCall source out s → r ≡ s → IsTold order.params.limit ErrCall err s
+      → Ends calm words OutCall ErrCall source out err r
+  ended_order order ok s r run same told =
+      let read = read_order calm words in
+      record {
+        cause = caused OutCall order source out read ok r
+            (subst (HasRun order OutCall source out) (sym same) run);
+        told = subst (IsTold (limit_of read) ErrCall err) (sym same)
+            (subst (λ limit. IsTold limit ErrCall err s) (sym (ap limit_of ok)) told);
+      }
+
+  -- words that gave no order, and what was told of them
+  pub ended_words : (fault : OrderFault) → IsFaultOf (read_order calm words) fault
+      → IsUntouched source → IsUntouched out → (r : Status) → r ≡ order_status fault
+      → IsTold 0 ErrCall err r → Ends calm words OutCall ErrCall source out err r
+  ended_words (order_fault.Bad fault) is untouched untouched' r same told =
+      let read = read_order calm words in
+      subst (Ends calm words OutCall ErrCall source out err) (sym same) (record {
+        cause = (is, untouched, untouched');
+        told = subst (λ limit. IsTold limit ErrCall err (order_status (order_fault.Bad fault)))
+            (sym (ap limit_of is)) (subst (IsTold 0 ErrCall err) same told);
+      })
+  ended_words order_fault.NoMemory is untouched untouched' r same told =
+      subst (Ends calm words OutCall ErrCall source out err) (sym same) (record {
+        cause = (untouched', inl untouched);
+        told = subst (IsTold 0 ErrCall err) same told;
+      })

@@ -1,5 +1,5 @@
 -- What can be served gives a report, or there is no memory.
-use Rattle.std.proofs.Common.{◌≡◌, ◌⊎◌, inl, inr, ℕ, List, [], ◌++◌, refl, sym, subst, ap, ◌∙◌}
+use Rattle.std.proofs.Common.{◌≡◌, ◌⊎◌, inl, inr, ⊎_elim, ℕ, List, [], ◌++◌, refl, sym, subst, ap, ◌∙◌}
 use Rattle.std.proofs.Common.{Result, Ok, Err, arith}
 use Rattle.std.specs.Prelude.{◌≤◌, Bool, Option, Some, None, IsSome, length}
 use Rattle.std.proofs.lemmas.List.{length-append}
@@ -90,6 +90,8 @@ not_large (job.Queens n) order source input read items tells has small large =
     large.many.large small
 not_large (job.Uts b0 m q seed) order source input read items tells has small large =
     large.many.large small
+not_large (job.Trial k) order source input read items tells has small large =
+    ⊎_elim (λ tree. tree.many.large small.0) (λ graph. graph.many.large small.1) large
 not_large job.Dist order source input read items tells has small large =
     let same = read_whole source input (tells tt) read has in
     let rows = one_graph input small.0 large.0 small.1

@@ -44,8 +44,8 @@ module _ {I V : Type 0} (children : I → List I) (value : I → V) (combine : V
   pub run_alone : (items : ℕ) (answer : V) (counters : List Counters) → order.driver ≡ driver.One
       → IsOutcome children value unit combine (root ∷ []) order.params.limit
       (record { items = items; value = answer })
-      → AreCounters children value combine unit (at_first root) order.params driver.One items answer
-      counters
+      → AreCounters children value combine unit (at_first root) order.params driver.One order.fabric
+      items answer counters
       → IsRun children value combine unit (at_first root) order items answer counters
   run_alone items answer counters one outcome counted = record {
     outcome = subst
@@ -53,8 +53,8 @@ module _ {I V : Type 0} (children : I → List I) (value : I → V) (combine : V
         (record { items = items; value = answer }))
         (sym root_alone) outcome;
     counted = subst
-        (λ d. AreCounters children value combine unit (at_first root) order.params d items answer
-        counters)
+        (λ d. AreCounters children value combine unit (at_first root) order.params d order.fabric
+        items answer counters)
         (sym one) counted;
   }
 
@@ -72,7 +72,7 @@ module _ {I V : Type 0} (children : I → List I) (value : I → V) (combine : V
 
   module _ (lists : ℕ → List I) (lists_are : (p : ℕ) → lists p ≡ at_first root p) where
     -- the lists and the root at the first place are the same roots
-    same_roots : join_to order.params.places lists ≡ all_roots order (at_first root)
+    pub same_roots : join_to order.params.places lists ≡ all_roots order (at_first root)
     same_roots = join_first root lists lists_are order.params.places some ∙ sym root_alone
 
     -- why a run of such lists by turns ended early
@@ -136,7 +136,7 @@ module _ {I V : Type 0} (children : I → List I) (value : I → V) (combine : V
       run_first turns = record {
         outcome = report_first.report.outcome;
         counted = subst
-            (λ d. AreCounters children value combine unit (at_first root) order.params d items
-            answer counters)
+            (λ d. AreCounters children value combine unit (at_first root) order.params d
+            order.fabric items answer counters)
             (sym turns) report_first;
       }

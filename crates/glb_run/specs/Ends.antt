@@ -23,6 +23,7 @@ abbrev pub ReadsSource : Job → Type 0
 ReadsSource (job.Queens n) = ⊥
 ReadsSource (job.Uts b0 m q seed) = ⊥
 ReadsSource job.Dist = Unit {0}
+ReadsSource (job.Trial k) = ⊥
 
 -- what the command reads of the source: all for the distances of a graph, and for other jobs
 -- nothing, by no call
@@ -30,6 +31,7 @@ abbrev pub HasRead : {S : Type 0} → Job → List ℕ → Change S → Type 0
 HasRead (job.Queens n) input source = (input ≡ []) × IsUntouched source
 HasRead (job.Uts b0 m q seed) input source = (input ≡ []) × IsUntouched source
 HasRead job.Dist input source = ReadsAll input source
+HasRead (job.Trial k) input source = (input ≡ []) × IsUntouched source
 
 abbrev pub graph_kind_of : GraphKind → text.FaultKind
 graph_kind_of graph_kind.BadLine = text.BadLine

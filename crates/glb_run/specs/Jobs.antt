@@ -1,5 +1,5 @@
 -- The trees of each job, and its report.
-use Rattle.std.specs.Prelude.{ℕ, true, List, [], length}
+use Rattle.std.specs.Prelude.{◌≡◌, ◌⊎◌, ℕ, true, List, [], ◌++◌, length}
 use Rattle.glb_laws.specs.Bounded.{sat_sum, capped_sum}
 use Rattle.glb_laws.specs.Tree.{IsSmall}
 use Rattle.glb_laws.specs.declared.sat_sum.SatSum.{SatSum}
@@ -17,8 +17,9 @@ use Rattle.glb_graph.specs.Reading.{IsTextOf}
 use Rattle.glb_graph.specs.declared.dist.Spot.TheVariants.{Root}
 use Rattle.glb_run.specs.declared.order.Order.{Order}
 use Rattle.glb_laws.specs.Tallies.{no_tallies, join_tallies}
-use Rattle.glb_run.specs.Reports.{queens_text, uts_text, dist_text}
+use Rattle.glb_run.specs.Reports.{queens_text, uts_text, dist_text, trial_line}
 use Rattle.glb_run.specs.Runs.{IsTreeReport, IsTooLarge, at_first, all_roots}
+use Rattle.glb_run.specs.Trials.{trial_graph}
 
 -- sums that stop at the last value of 64 bits
 abbrev pub no_sum : SatSum
@@ -53,18 +54,31 @@ IsDistReport rows order text =
     IsTreeReport (spot_children rows) (spot_value rows) join_tallies no_tallies (at_first Root)
     order (dist_text (length rows) (edges_of rows)) text
 
+-- the tree of a trial
+abbrev pub trial_tree : ℕ → Uts
+trial_tree k = tree_of 2000 4 483183820 k
+
+-- a trial: its line, then the report of its tree and that of its graph
+pub record IsTrialReport (k : ℕ) (order : Order) (text : Text) : Type 0 where
+  pub tree_text : Text
+  pub graph_text : Text
+  pub tree : IsUtsReport (trial_tree k) order tree_text
+  pub graph : IsDistReport (trial_graph k) order graph_text
+  pub whole : text ≡ trial_line k ++ tree_text ++ graph_text
+
 -- the report of a job, where the source gave this input
 abbrev pub IsReportOf : Job → Order → List ℕ → Text → Type 0
 IsReportOf (job.Queens n) order input text = IsQueensReport n order text
 IsReportOf (job.Uts b0 m q seed) order input text = IsUtsReport (tree_of b0 m q seed) order text
 IsReportOf job.Dist order input text =
     (rows : List (List ℕ)) × IsTextOf input rows × IsDistReport rows order text
+IsReportOf (job.Trial k) order input text = IsTrialReport k order text
 
 -- the report of the order's job
 abbrev pub IsReport : Order → List ℕ → Text → Type 0
 IsReport order = IsReportOf order.job order
 
--- the trees of a job have more nodes than the order's limit, and so many were expanded
+-- a tree of the job has more nodes than the order's limit, and so many were expanded
 abbrev pub HasTooManyOf : Job → Order → List ℕ → ℕ → Type 0
 HasTooManyOf (job.Queens n) order input items =
     IsTooLarge (boards_below n) (at_first []) order items
@@ -73,12 +87,15 @@ HasTooManyOf (job.Uts b0 m q seed) order input items =
 HasTooManyOf job.Dist order input items =
     (rows : List (List ℕ)) × IsTextOf input rows
     × IsTooLarge (spot_children rows) (at_first Root) order items
+HasTooManyOf (job.Trial k) order input items =
+    IsTooLarge (binomial.children (trial_tree k)) (at_first (root_of k)) order items
+    ⊎ IsTooLarge (spot_children (trial_graph k)) (at_first Root) order items
 
 -- the same of the order's job
 abbrev pub HasTooMany : Order → List ℕ → ℕ → Type 0
 HasTooMany order = HasTooManyOf order.job order
 
--- the input is one that the job takes, and the trees of the job have no more nodes than the order's
+-- the input is one that the job takes, and each tree of the job has no more nodes than the order's
 -- limit
 abbrev pub IsWithinLimitOf : Job → Order → List ℕ → Type 0
 IsWithinLimitOf (job.Queens n) order input =
@@ -89,6 +106,10 @@ IsWithinLimitOf (job.Uts b0 m q seed) order input =
 IsWithinLimitOf job.Dist order input =
     (rows : List (List ℕ)) × IsTextOf input rows
     × IsSmall (spot_children rows) (all_roots order (at_first Root)) order.params.limit
+IsWithinLimitOf (job.Trial k) order input =
+    IsSmall (binomial.children (trial_tree k)) (all_roots order (at_first (root_of k)))
+    order.params.limit
+    × IsSmall (spot_children (trial_graph k)) (all_roots order (at_first Root)) order.params.limit
 
 -- the same of the order's job
 abbrev pub IsWithinLimit : Order → List ℕ → Type 0

@@ -2,7 +2,9 @@ pub mod Codes
 pub mod Orders
 pub mod FaultText
 pub mod Reports
+pub mod ThreadedRuns
 pub mod Runs
+pub mod Trials
 pub mod Jobs
 pub mod Streams
 pub mod Ends

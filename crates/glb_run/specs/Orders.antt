@@ -21,6 +21,7 @@ order_of s = record {
     limit = s.limit;
   };
   driver = s.driver;
+  fabric = s.fabric;
   stats = s.stats;
 }
 

@@ -27,6 +27,10 @@ uts_line b0 m q seed = line_text (codes "uts") (b0 ∷ m ∷ q ∷ seed ∷ [])
 abbrev pub dist_line : ℕ → ℕ → Text
 dist_line vertices edges = line_text (codes "dist") (vertices ∷ edges ∷ [])
 
+-- the line that names a trial
+abbrev pub trial_line : ℕ → Text
+trial_line k = line_text (codes "trial") (k ∷ [])
+
 -- the placements of n queens
 abbrev pub queens_text : ℕ → ℕ → SatSum → Text
 queens_text n items placements =

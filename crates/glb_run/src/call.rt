@@ -1,14 +1,16 @@
 //! The program as one call, in stages: read the words, prepare the task, run it, and write its
 //! report or tell of the refusal.
-ghost use Rattle.std.specs.Prelude.{◌≡◌, ◌<◌, ◌^◌, List, ℕ, length, false, true, IfOk, IfErr};
+ghost use Rattle.std.specs.Prelude.{◌≡◌, ◌≢◌, ◌<◌, ◌^◌, List, ℕ, length, false, true};
+ghost use Rattle.std.specs.Prelude.{IfOk, IfErr};
 ghost use Rattle.glb_graph.specs.Reading.{IsTextOf};
 ghost use Rattle.glb_words.specs.Words.{texts_of};
+ghost use Rattle.glb_words.specs.declared.settings.Driver.TheVariants as driver;
 ghost use Rattle.glb_run.specs.Orders.{OrderFits};
 ghost use Rattle.glb_run.specs.Streams.{change, ReadsAll};
 ghost use Rattle.glb_run.specs.Ends.{HasRun, IsTold, Ends};
 ghost use Rattle.glb_run.specs.Completeness.{IsComplete};
 ghost use Rattle.glb_run.specs.inner.Stops.{Wrote, Finishes, GivesNoGraph, status_of as status_for};
-ghost use Rattle.glb_run.specs.inner.Stops.{graph_status, read_status};
+ghost use Rattle.glb_run.specs.inner.Stops.{graph_status, read_status, order_status};
 ghost use Rattle.glb_run.specs.inner.Tasks.{IsPrepared, IsUnprepared, TaskFits};
 
 use super::fault_text::fault_line;
@@ -17,10 +19,11 @@ use super::job::{Task, report_calm};
 use super::order::{Order, read_words};
 use super::reading::{ReadStop, read_all};
 use super::status::{GraphKind, Status};
+use super::threaded::report;
 use glb_graph::{Graph, GraphFault, read_graph};
 use glb_io::{Sink, Source};
 use glb_tree::RunFault;
-use glb_words::{Job, OrderFault};
+use glb_words::{Job, OrderFault, WordFault};
 use std::alloc::Global;
 use std::sync::Wait;
 use std::thread::Threads;
@@ -97,6 +100,7 @@ fn prepare<S: Source>(alloc: Global, order: &Order, source: &mut S) -> Result<Ta
             Ok(graph) => Ok(Task::Dist { graph }),
             Err(status) => Err(status),
         },
+        Job::Trial { k } => Ok(Task::Trial { k }),
     }
 }
 
@@ -122,12 +126,33 @@ fn finish<K: Sink>(report: Result<Vec<u8>, RunFault>, out: &mut K) -> Status
     }
 }
 
-/// Carries an order out, all but telling of a refusal.
-fn run_order<S: Source, K: Sink>(
+/// Carries an order out without threads, all but telling of a refusal.
+fn run_order_calmly<S: Source, K: Sink>(
     alloc: Global,
     order: &Order,
     source: &mut S,
     out: &mut K,
+) -> Status
+    requires order { OrderFits order.now }
+    requires calm { order.now.driver ≢ driver.Threads }
+    ensures { HasRun order.now K.one_call
+        (change S.left S.faults source.old source.new)
+        (change K.taken K.faults out.old out.new) result }
+{
+    match prepare(alloc, order, source) {
+        Ok(task) => finish(report_calm(alloc, &task, order), out),
+        Err(status) => status,
+    }
+}
+
+/// Carries an order out by any driver, all but telling of a refusal.
+fn run_order<R: Threads + Wait + Sync, S: Source, K: Sink, G: Gate + Sync>(
+    rt: &R,
+    alloc: Global,
+    order: &Order,
+    source: &mut S,
+    out: &mut K,
+    gate: &G,
 ) -> Status
     requires { OrderFits order.now }
     ensures { HasRun order.now K.one_call
@@ -135,7 +160,7 @@ fn run_order<S: Source, K: Sink>(
         (change K.taken K.faults out.old out.new) result }
 {
     match prepare(alloc, order, source) {
-        Ok(task) => finish(report_calm(alloc, &task, order), out),
+        Ok(task) => finish(report(rt, alloc, &task, order, gate), out),
         Err(status) => status,
     }
 }
@@ -156,49 +181,28 @@ fn tell<E: Sink>(err: &mut E, limit: u64, status: Status) -> Status
     status
 }
 
-/// The whole program.
-fn run_words<S: Source, K: Sink, E: Sink>(
-    alloc: Global,
-    words: &[String],
-    calm: bool,
-    source: &mut S,
-    out: &mut K,
-    err: &mut E,
-) -> Status
-    requires { length words.now < 2 ^ 32 }
-    ensures { Ends calm (texts_of words.now)
-        K.one_call E.one_call
-        (change S.left S.faults source.old source.new)
-        (change K.taken K.faults out.old out.new)
-        (change E.taken E.faults err.old err.new) result }
+/// Tells what is wrong with the words.
+fn refuse_words<E: Sink>(err: &mut E, fault: OrderFault) -> Status
+    ensures status { result ≡ order_status fault }
+    ensures told { IsTold 0 E.one_call (change E.taken E.faults err.old err.new) result }
 {
-    match read_words(alloc, words, calm) {
-        Ok(order) => {
-            let status = run_order(alloc, &order, source, out);
-            tell(err, order.params.limit, status)
-        }
-        Err(OrderFault::Bad(fault)) => {
-            let status = Status::BadWords {
-                kind: fault.kind,
-                word: fault.word,
-            };
-            tell(err, 0, status)
-        }
-        Err(OrderFault::NoMemory) => tell(err, 0, Status::NoMemory),
+    match fault {
+        OrderFault::Bad(WordFault { kind, word }) => tell(err, 0, Status::BadWords { kind, word }),
+        OrderFault::NoMemory => tell(err, 0, Status::NoMemory),
     }
 }
 
 /// Does all that the program does: reads the words, the source where the job has a graph, runs the
-/// job, and writes its report. The first refusal ends it, and goes to `err` as one line. The gate
-/// is for jobs that run in threads.
-pub fn top<R: Threads + Wait, S: Source, K: Sink, E: Sink, G: Gate>(
-    _rt: &R,
+/// job, and writes its report. The first refusal ends it, and goes to `err` as one line. A job that
+/// runs on threads passes the gate once at each expansion; no other job passes it.
+pub fn top<R: Threads + Wait + Sync, S: Source, K: Sink, E: Sink, G: Gate + Sync>(
+    rt: &R,
     alloc: Global,
     words: &[String],
     source: &mut S,
     out: &mut K,
     err: &mut E,
-    _gate: &G,
+    gate: &G,
 ) -> Status
     requires { length words.now < 2 ^ 32 }
     ensures ends { Ends false (texts_of words.now)
@@ -210,10 +214,16 @@ pub fn top<R: Threads + Wait, S: Source, K: Sink, E: Sink, G: Gate>(
         (change S.left S.faults source.old source.new)
         (change K.taken K.faults out.old out.new) result }
 {
-    run_words(alloc, words, false, source, out, err)
+    match read_words(alloc, words, false) {
+        Ok(order) => {
+            let status = run_order(rt, alloc, &order, source, out, gate);
+            tell(err, order.params.limit, status)
+        }
+        Err(fault) => refuse_words(err, fault),
+    }
 }
 
-/// The same without threads: it always returns.
+/// The same without threads, which it refuses as a fault of their word: it always returns.
 pub fn top_calm<S: Source, K: Sink, E: Sink>(
     alloc: Global,
     words: &[String],
@@ -231,5 +241,11 @@ pub fn top_calm<S: Source, K: Sink, E: Sink>(
         (change S.left S.faults source.old source.new)
         (change K.taken K.faults out.old out.new) result }
 {
-    run_words(alloc, words, true, source, out, err)
+    match read_words(alloc, words, true) {
+        Ok(order) => {
+            let status = run_order_calmly(alloc, &order, source, out);
+            tell(err, order.params.limit, status)
+        }
+        Err(fault) => refuse_words(err, fault),
+    }
 }

@@ -1,19 +1,22 @@
 //! Runs a tree by the driver that an order names.
-ghost use Rattle.std.specs.Prelude.{◌≡◌, ◌≤◌, ◌<◌, ◌^◌, ℕ, [], ◌∷◌, length, map, get_or, vec_len};
-ghost use Rattle.std.specs.Prelude.{All, IfOk, IfErr};
-ghost use Rattle.glb_stats.specs.Balances.{HasSmallUnits};
+ghost use Rattle.std.specs.Prelude.{◌≡◌, ◌≢◌, ◌≤◌, ◌<◌, ◌^◌, ℕ, [], ◌∷◌, map, get_or, vec_len};
+ghost use Rattle.std.specs.Prelude.{IfOk, IfErr};
 ghost use Rattle.glb_run.specs.Orders.{OrderFits};
 ghost use Rattle.glb_words.specs.declared.settings.Driver.TheVariants as driver;
-ghost use Rattle.glb_run.specs.Runs.{IsRun, lone_counters, at_first};
+ghost use Rattle.glb_run.specs.Runs.{lone_counters, at_first};
+ghost use Rattle.glb_run.specs.inner.Answers.{IsAnswer};
 ghost use Rattle.glb_run.specs.inner.Stops.{StopsRun};
 
 use super::order::Order;
+use super::places::run_places;
 use glb_laws::{Bag, Program};
 use glb_stats::{Counters, Report};
 use glb_tree::{RunFault, run_one};
 use glb_turns::{Rounds, run_turns};
 use glb_words::Driver;
 use std::alloc::Global;
+use std::sync::Wait;
+use std::thread::Threads;
 
 /// The counters of the one place of a run in one bag.
 fn lone_counters(items: u64) -> Counters
@@ -65,10 +68,8 @@ fn run_in_one_bag<P: Program, B: Bag<P>>(
 ) -> Result<Report<P::Value>, RunFault>
     requires order { OrderFits order.now }
     requires driver { order.now.driver ≡ driver.One }
-    ensures run { IfOk result (λ r. IsRun (P.children program.now) (P.value program.now)
-        P.Value.combine P.Value.unit (at_first root) order.now r.items r.value r.counters.items) }
-    ensures few { IfOk result (λ r. length r.counters.items ≤ 64) }
-    ensures units { IfOk result (λ r. All HasSmallUnits r.counters.items) }
+    ensures run { IfOk result (λ r. IsAnswer (P.children program.now) (P.value program.now)
+        P.Value.combine P.Value.unit root order.now r.items r.value r.counters.items) }
     ensures stops { IfErr result (StopsRun (P.children program.now) (at_first root) order.now) }
 {
     let roots = only(alloc, root)?;
@@ -94,10 +95,8 @@ fn run_by_turns<P: Program, B: Bag<P>>(
 ) -> Result<Report<P::Value>, RunFault>
     requires order { OrderFits order.now }
     requires driver { order.now.driver ≡ driver.Turns }
-    ensures run { IfOk result (λ r. IsRun (P.children program.now) (P.value program.now)
-        P.Value.combine P.Value.unit (at_first root) order.now r.items r.value r.counters.items) }
-    ensures few { IfOk result (λ r. length r.counters.items ≤ 64) }
-    ensures units { IfOk result (λ r. All HasSmallUnits r.counters.items) }
+    ensures run { IfOk result (λ r. IsAnswer (P.children program.now) (P.value program.now)
+        P.Value.combine P.Value.unit root order.now r.items r.value r.counters.items) }
     ensures stops { IfErr result (StopsRun (P.children program.now) (at_first root) order.now) }
 {
     let roots = roots_at_first(alloc, root, order.params.places)?;
@@ -105,22 +104,44 @@ fn run_by_turns<P: Program, B: Bag<P>>(
     run_turns::<P, B, Rounds>(alloc, program, roots, &order.params, &mut rounds)
 }
 
-/// Runs the root's tree by the order's driver.
-pub(crate) fn run_tree<P: Program, B: Bag<P>>(
+/// Runs the root's tree over the places of the order, which are played on threads.
+pub(crate) fn run_in_threads<
+    R: Threads + Wait + Sync,
+    P: Program<Item: Send + Sync, Value: Send + Sync> + Send + Sync,
+    B: Bag<P> + Send,
+>(
+    rt: &R,
     alloc: Global,
     program: &P,
     root: P::Item,
     order: &Order,
 ) -> Result<Report<P::Value>, RunFault>
-    requires { OrderFits order.now }
-    ensures run { IfOk result (λ r. IsRun (P.children program.now) (P.value program.now)
-        P.Value.combine P.Value.unit (at_first root) order.now r.items r.value r.counters.items) }
-    ensures few { IfOk result (λ r. length r.counters.items ≤ 64) }
-    ensures units { IfOk result (λ r. All HasSmallUnits r.counters.items) }
+    requires order { OrderFits order.now }
+    requires driver { order.now.driver ≡ driver.Threads }
+    ensures run { IfOk result (λ r. IsAnswer (P.children program.now) (P.value program.now)
+        P.Value.combine P.Value.unit root order.now r.items r.value r.counters.items) }
+    ensures stops { IfErr result (StopsRun (P.children program.now) (at_first root) order.now) }
+{
+    let roots = roots_at_first(alloc, root, order.params.places)?;
+    run_places::<R, P, B>(rt, alloc, program, roots, &order.params, order.fabric)
+}
+
+/// Runs the root's tree by the order's driver, which is not that of threads.
+pub(crate) fn run_calmly<P: Program, B: Bag<P>>(
+    alloc: Global,
+    program: &P,
+    root: P::Item,
+    order: &Order,
+) -> Result<Report<P::Value>, RunFault>
+    requires order { OrderFits order.now }
+    requires calm { order.now.driver ≢ driver.Threads }
+    ensures run { IfOk result (λ r. IsAnswer (P.children program.now) (P.value program.now)
+        P.Value.combine P.Value.unit root order.now r.items r.value r.counters.items) }
     ensures stops { IfErr result (StopsRun (P.children program.now) (at_first root) order.now) }
 {
     match order.driver {
         Driver::One => run_in_one_bag::<P, B>(alloc, program, root, order),
         Driver::Turns => run_by_turns::<P, B>(alloc, program, root, order),
+        Driver::Threads => unreachable!(),
     }
 }

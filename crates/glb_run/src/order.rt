@@ -2,11 +2,11 @@
 ghost use Rattle.std.specs.Prelude.{◌≡◌, ◌<◌, ◌^◌, length, Ok, IfOk, IfErr};
 ghost use Rattle.glb_words.specs.Words.{texts_of};
 ghost use Rattle.glb_words.specs.OrderFaults.{IsFaultOf};
-ghost use Rattle.glb_words.specs.Settings.{SettingsFit};
+ghost use Rattle.glb_words.specs.Settings.{SettingsFit, IsCalmIf};
 ghost use Rattle.glb_run.specs.Orders.{order_of, read_order, IsOrderOfClap, OrderFits};
 
 use glb_core::Params;
-use glb_words::{Driver, Job, OrderFault, Settings, read_settings};
+use glb_words::{Driver, FabricKind, Job, OrderFault, Settings, read_settings};
 use std::alloc::Global;
 
 /// What is run, and how.
@@ -15,6 +15,7 @@ pub struct Order {
     pub job: Job,
     pub params: Params,
     pub driver: Driver,
+    pub fabric: FabricKind,
     pub stats: bool,
 }
 
@@ -34,6 +35,7 @@ fn order_of(settings: Settings) -> Order
             limit: settings.limit,
         },
         driver: settings.driver,
+        fabric: settings.fabric,
         stats: settings.stats,
     }
 }
@@ -43,6 +45,7 @@ pub fn read_words(alloc: Global, words: &[String], calm: bool) -> Result<Order, 
     requires { length words.now < 2 ^ 32 }
     ensures ok { IfOk result (λ order. read_order calm (texts_of words.now) ≡ Ok order) }
     ensures fits { IfOk result OrderFits }
+    ensures calm { IfOk result (λ order. IsCalmIf calm order.driver) }
     ensures clap { IfOk result (IsOrderOfClap calm (texts_of words.now)) }
     ensures fault { IfErr result (IsFaultOf (read_order calm (texts_of words.now))) }
 {

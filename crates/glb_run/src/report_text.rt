@@ -2,7 +2,8 @@
 ghost use Rattle.std.specs.Prelude.{◌≡◌, ◌≤◌, ◌<◌, ◌^◌, ◌++◌, ◌∷◌, [], ℕ, List, length, All, OnOk};
 ghost use Rattle.std.specs.Prelude.{IfOk, IfErr, string_bytes, codes, true, false};
 ghost use Rattle.glb_stats.specs.Balances.{HasSmallUnits};
-ghost use Rattle.glb_run.specs.Reports.{line_text, queens_text, uts_text, dist_text, counters_text};
+ghost use Rattle.glb_run.specs.Reports.{line_text, queens_text, uts_text, dist_text, trial_line};
+ghost use Rattle.glb_run.specs.Reports.{counters_text};
 
 use glb_laws::{SatSum, Tallies};
 use glb_stats::{Counters, write_stats};
@@ -76,6 +77,15 @@ pub(crate) fn dist_lines(
     write_line(&mut out, "pairs", &[tallies.0.0])?;
     write_line(&mut out, "sum", &[tallies.1.0.0])?;
     write_line(&mut out, "greatest", &[tallies.1.1.0])?;
+    Ok(out)
+}
+
+/// The line that names a trial.
+pub(crate) fn trial_line(alloc: Global, k: u32) -> Result<String, AllocError>
+    ensures { IfOk result (λ text. string_bytes text ≡ trial_line k) }
+{
+    let mut out = String::new(alloc);
+    write_line(&mut out, "trial", &[u64::from(k)])?;
     Ok(out)
 }
 

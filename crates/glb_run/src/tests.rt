@@ -1,9 +1,14 @@
 mod bags;
+mod listed;
 mod places;
 mod refusals;
+mod refused;
 mod reports;
 mod script;
 mod streams;
+mod threads;
+mod top_threads;
+mod trials;
 mod turns;
 
 use super::{Status, top_calm};

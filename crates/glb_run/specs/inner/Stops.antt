@@ -1,6 +1,8 @@
 -- How the stages of a call end early: reading, the run of trees, the writing of a report.
 use Rattle.std.specs.Prelude.{◌≡◌, ◌⊎◌, ℕ, List, Result, Ok, Err}
 use Rattle.glb_words.specs.Rules.{Text}
+use Rattle.glb_words.specs.declared.fault.OrderFault.{OrderFault}
+use Rattle.glb_words.specs.declared.fault.OrderFault.TheVariants as order_fault
 use Rattle.glb_tree.specs.declared.run.RunFault.{RunFault}
 use Rattle.glb_tree.specs.declared.run.RunFault.TheVariants as run_fault
 use Rattle.glb_graph.specs.Reading.{HasTextFault}
@@ -43,6 +45,11 @@ abbrev pub Finishes : {K Bytes : Type 0} → CallRule K → (Bytes → Text) →
     → Change K → Status → Type 0
 Finishes IsCall items_of (Ok bytes) out s = Wrote IsCall (items_of bytes) out s
 Finishes IsCall items_of (Err fault) out s = (s ≡ status_of fault) × IsUntouched out
+
+-- the status of words that give no order
+abbrev pub order_status : OrderFault → Status
+order_status (order_fault.Bad fault) = status.BadWords fault.kind fault.word
+order_status order_fault.NoMemory = status.NoMemory
 
 -- the status of an input that gave no graph
 abbrev pub graph_status : GraphFault → Status

@@ -1,5 +1,5 @@
 -- What is left to run once the source was read.
-use Rattle.std.specs.Prelude.{◌≡◌, ℕ, List, []}
+use Rattle.std.specs.Prelude.{◌≡◌, ◌⊎◌, ℕ, List, []}
 use Rattle.glb_words.specs.Rules.{Text}
 use Rattle.glb_words.specs.Settings.{JobFits}
 use Rattle.glb_words.specs.declared.settings.Job.{Job}
@@ -15,7 +15,9 @@ use Rattle.glb_run.specs.declared.job.Task.TheVariants as task
 use Rattle.glb_run.specs.declared.order.Order.{Order}
 use Rattle.glb_run.specs.declared.status.Status.{Status}
 use Rattle.glb_run.specs.Runs.{at_first}
-use Rattle.glb_run.specs.Jobs.{IsQueensReport, IsUtsReport, IsDistReport, tree_of, root_of}
+use Rattle.glb_run.specs.Trials.{trial_graph}
+use Rattle.glb_run.specs.Jobs.{IsQueensReport, IsUtsReport, IsDistReport, IsTrialReport}
+use Rattle.glb_run.specs.Jobs.{tree_of, root_of, trial_tree}
 use Rattle.glb_run.specs.Streams.{Change}
 use Rattle.glb_run.specs.Ends.{ReadsSource, HasRead}
 use Rattle.glb_run.specs.inner.Stops.{StopsRun, GivesNoGraph}
@@ -25,6 +27,7 @@ abbrev pub IsTaskOf : Job → List ℕ → Task → Type 0
 IsTaskOf (job.Queens n) input t = t ≡ task.Queens n
 IsTaskOf (job.Uts b0 m q seed) input t = t ≡ task.Uts b0 m q seed
 IsTaskOf job.Dist input t = (rows : List (List ℕ)) × IsTextOf input rows × (t ≡ task.Dist rows)
+IsTaskOf (job.Trial k) input t = t ≡ task.Trial k
 
 -- the source was read as the order's job reads it, and this is its task
 pub record IsPrepared {S : Type 0} (order : Order) (source : Change S) (t : Task) : Type 0 where
@@ -41,12 +44,20 @@ abbrev pub TaskFits : Task → Type 0
 TaskFits (task.Queens n) = JobFits (job.Queens n)
 TaskFits (task.Uts b0 m q seed) = JobFits (job.Uts b0 m q seed)
 TaskFits (task.Dist rows) = Unit {0}
+TaskFits (task.Trial k) = JobFits (job.Trial k)
 
 -- the text is the report of the task
 abbrev pub IsTaskReport : Task → Order → Text → Type 0
 IsTaskReport (task.Queens n) order text = IsQueensReport n order text
 IsTaskReport (task.Uts b0 m q seed) order text = IsUtsReport (tree_of b0 m q seed) order text
 IsTaskReport (task.Dist rows) order text = IsDistReport rows order text
+IsTaskReport (task.Trial k) order text = IsTrialReport k order text
+
+-- the run of a trial ended early, in its tree or in its graph
+abbrev pub StopsTrial : ℕ → Order → RunFault → Type 0
+StopsTrial k order fault =
+    StopsRun (binomial.children (trial_tree k)) (at_first (root_of k)) order fault
+    ⊎ StopsRun (spot_children (trial_graph k)) (at_first Root) order fault
 
 -- the run of the task ended early
 abbrev pub StopsTask : Task → Order → RunFault → Type 0
@@ -54,3 +65,4 @@ StopsTask (task.Queens n) order fault = StopsRun (boards_below n) (at_first []) 
 StopsTask (task.Uts b0 m q seed) order fault =
     StopsRun (binomial.children (tree_of b0 m q seed)) (at_first (root_of seed)) order fault
 StopsTask (task.Dist rows) order fault = StopsRun (spot_children rows) (at_first Root) order fault
+StopsTask (task.Trial k) order fault = StopsTrial k order fault

@@ -6,7 +6,7 @@ use std::process::Abort;
 use std::test::Fail;
 
 /// Words with a fault of a kind, the number of the faulty word, and the line.
-const WORDS: [(&str, WordKind, u32, &str); 10] = [
+const WORDS: [(&str, WordKind, u32, &str); 12] = [
     (
         "queen 8",
         WordKind::UnknownJob,
@@ -58,9 +58,21 @@ const WORDS: [(&str, WordKind, u32, &str); 10] = [
     ),
     (
         "queens 8 --driver threads",
-        WordKind::BadChoice,
+        WordKind::Calm,
         3,
-        "glb: word 3: bad choice\n",
+        "glb: word 3: threads not allowed\n",
+    ),
+    (
+        "queens 8 --fabric=boxes",
+        WordKind::BadChoice,
+        2,
+        "glb: word 2: bad choice\n",
+    ),
+    (
+        "trial 4294967296",
+        WordKind::OutOfRange,
+        1,
+        "glb: word 1: out of range\n",
     ),
 ];
 
@@ -90,13 +102,14 @@ const GRAPHS: [(&str, GraphKind, u64, &str); 6] = [
 ];
 
 /// Commands whose trees have more nodes than the limit, how many were expanded, and the line.
-const LARGE: [(&str, u64, &str); 2] = [
+const LARGE: [(&str, u64, &str); 3] = [
     ("queens 8 --limit 2056", 2057, "glb: more than 2056 items\n"),
     (
         "uts 1 1 2147483648 7 --limit 100",
         128,
         "glb: more than 100 items\n",
     ),
+    ("trial 7 --limit 1000", 1024, "glb: more than 1000 items\n"),
 ];
 
 /// Compares the status and the line, where no report was written.

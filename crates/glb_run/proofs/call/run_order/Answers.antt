@@ -7,5 +7,5 @@ returns-in-Ok g c =
     finished g.K.Sink.one_call c.args.order.now
     (change g.S.Source.left g.S.Source.faults c.args.source.now c.prepare.new.source)
     (change g.K.Sink.taken g.K.Sink.faults c.args.out.now c.finish.new.out) (λ bytes. bytes.items)
-    c.in-Ok.task c.in-Ok.ensures.task c.report_calm.result c.report_calm.ensures.report
-    c.report_calm.ensures.stops c.finish.result c.finish.ensures
+    c.in-Ok.task c.in-Ok.ensures.task c.report.result c.report.ensures.report
+    c.report.ensures.stops c.finish.result c.finish.ensures

@@ -14,13 +14,16 @@ returns-in-Err-clause-stops g c =
     c.in-Err.ensures.last_batch
 
 pub returns-clause-run : goal.returns-clause-run
-returns-clause-run g c =
-    run_alone (g.P.Program.children c.args.program.now) (g.P.Program.value c.args.program.now)
-    g.P.Value.Monoid.combine g.P.Value.Monoid.unit c.args.root c.args.order.now
-    c.requires.order.params.places.0 c.in-Ok.outcome.items c.in-Ok.outcome.value
-    c.in_ok-counters.counters.items c.requires.driver
-    (subst (λ roots. IsOutcome (g.P.Program.children c.args.program.now)
-    (g.P.Program.value c.args.program.now) g.P.Value.Monoid.unit g.P.Value.Monoid.combine roots
-    c.args.order.now.params.limit c.in-Ok.outcome)
-    c.in_ok-roots.ensures.list c.in-Ok.ensures.ok)
-    (search rules)
+returns-clause-run g c = record {
+  run = run_alone (g.P.Program.children c.args.program.now) (g.P.Program.value c.args.program.now)
+      g.P.Value.Monoid.combine g.P.Value.Monoid.unit c.args.root c.args.order.now
+      c.requires.order.params.places.0 c.in-Ok.outcome.items c.in-Ok.outcome.value
+      c.in_ok-counters.counters.items c.requires.driver
+      (subst (λ roots. IsOutcome (g.P.Program.children c.args.program.now)
+      (g.P.Program.value c.args.program.now) g.P.Value.Monoid.unit g.P.Value.Monoid.combine roots
+      c.args.order.now.params.limit c.in-Ok.outcome)
+      c.in_ok-roots.ensures.list c.in-Ok.ensures.ok)
+      (search rules);
+  few = search rules;
+  units = search rules;
+}

@@ -1,0 +1,14 @@
+use Rattle.std.proofs.Common.{ℕ, List, [], subst, ◌∙◌}
+use Rattle.glb_queens.specs.Boards.{boards_below, value_of}
+use Rattle.glb_run.specs.Jobs.{no_sum, add_sums}
+use Rattle.glb_run.specs.inner.Answers.{IsAnswer}
+use Rattle.glb_run.proofs.threaded.queens_in_threads.Goals as goal
+
+pub queens_bytes-requires : goal.queens_bytes-requires
+queens_bytes-requires g c =
+    let run = c.in_ok-outcome.outcome in
+    let Answers : ℕ → List ℕ → Type 0 = λ n root.
+    IsAnswer (boards_below n) (value_of n) add_sums no_sum root c.args.order.now run.items run.value
+    run.counters.items in
+    subst (λ n. Answers n []) (c.new-gated.ensures ∙ c.new-queens.ensures)
+    (subst (Answers c.new-gated.result) c.root-root.ensures.root c.in_ok-outcome.ensures.run)

@@ -1,0 +1,32 @@
+use Rattle.std.proofs.Common.{inr, ◌++◌, ap, subst, ◌∙◌}
+use Rattle.std.proofs.lemmas.Result.{IfOk-weaker}
+use Rattle.glb_graph.specs.Spots.{spot_children}
+use Rattle.glb_graph.specs.declared.dist.Spot.TheVariants.{Root}
+use Rattle.glb_run.specs.Reports.{trial_line}
+use Rattle.glb_run.specs.Runs.{at_first}
+use Rattle.glb_run.specs.Jobs.{IsDistReport}
+use Rattle.glb_run.specs.inner.Stops.{StopsRun}
+use Rattle.glb_run.proofs.threaded.trial_in_threads.Goals as goal
+
+pub returns-in-Err-dist_in_threads-clause-stops : goal.returns-in-Err-dist_in_threads-clause-stops
+returns-in-Err-dist_in_threads-clause-stops g c =
+    inr (subst (λ rows. StopsRun (spot_children rows) (at_first Root) c.args.order.now
+    c.in-Err-dist_in_threads.fault)
+    c.in_ok-graph.ensures.graph c.in-Err-dist_in_threads.ensures.stops)
+
+pub returns-clause-report : goal.returns-clause-report
+returns-clause-report g c =
+    let line = trial_line c.args.k in
+    let tree = c.in-Ok.bytes.items in
+    let graph = c.in-Ok-dist_in_threads.bytes.items in
+    IfOk-weaker c.trial_bytes.result _ _
+    (λ bytes whole. record {
+      tree_text = tree;
+      graph_text = graph;
+      tree = c.in-Ok.ensures.report;
+      graph = subst (λ rows. IsDistReport rows c.args.order.now graph)
+          c.in_ok-graph.ensures.graph c.in-Ok-dist_in_threads.ensures.report;
+      whole = whole ∙ ap (λ t. line ++ t ++ c.deref-2.result.now) c.deref.ensures.value
+          ∙ ap (λ t. line ++ tree ++ t) c.deref-2.ensures.value;
+    })
+    c.trial_bytes.ensures.bytes
