@@ -11,7 +11,7 @@ use Rattle.glb_rules.specs.Sight.{Sight, IsIn, each_below, in_edge, in_edges, ou
 use Rattle.glb_rules.specs.Decision.{decide, by_credit, by_phase, resting_action, working_action, waiting_action, take_or, idle_action, deny_or, first, is_unseen, is_pending, is_asked, is_state, is_mark, is_line, is_wanted, or_else}
 use Rattle.glb_rules.proofs.Decisions.Events.{first_none, own_decided}
 use Rattle.glb_rules.proofs.Decisions.Actors.{decided_actor}
-use Rattle.glb_rules.proofs.Sums.Joined.{join_same}
+use Rattle.glb_laws.proofs.Joins.{join_same}
 use Rattle.glb_core.proofs.Lifelines.Seen.{map_each}
 use Rattle.glb_core.proofs.Lifelines.Setups.{proper, line_is, outs_are}
 use Rattle.glb_rules.specs.declared.kinds.Kind.{Kind}

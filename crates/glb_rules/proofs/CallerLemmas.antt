@@ -3,7 +3,7 @@ pub use Rattle.glb_rules.proofs.Sums.Totals.{sum_zero, sum_same, sum_change, sum
 pub use Rattle.glb_rules.proofs.Sums.Totals.{sum_times, term_le}
 pub use Rattle.glb_rules.proofs.Sums.Members.{AllApart, distinct_append, distinct_join, in_append}
 pub use Rattle.glb_rules.proofs.Sums.Members.{in_left, in_right, in_join, join_in, in_map, map_in}
-pub use Rattle.glb_rules.proofs.Sums.Joined.{join_same}
+pub use Rattle.glb_laws.proofs.Joins.{join_same}
 pub use Rattle.glb_rules.proofs.EdgeLemmas.Marks.{apart, is_there, unmarked_put, eq_self, eq_other, same_kind_true}
 pub use Rattle.glb_rules.proofs.EdgeLemmas.Marks.{same_kind_false, set_mark_at, set_mark_else}
 pub use Rattle.glb_rules.proofs.EdgeLemmas.Made.{number_in, in_number, line_in, in_line, apart_of, names_named}

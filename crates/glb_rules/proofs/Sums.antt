@@ -1,4 +1,3 @@
 -- Sums over places and edges, and lists of lists.
 pub mod Totals
-pub mod Joined
 pub mod Members

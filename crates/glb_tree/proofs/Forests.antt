@@ -25,7 +25,7 @@ module _ {X : Type 0} (children : X → List X) where
   ForestEnds rs d = forest_size rs (suc d) ≤ forest_size rs d
 
   -- the first step of a tree
-  tree-suc : (x : X) (d : ℕ) → tree children x (suc d) ≡ x ∷ forest children (children x) d
+  pub tree-suc : (x : X) (d : ℕ) → tree children x (suc d) ≡ x ∷ forest children (children x) d
   unfolding tree forest
   tree-suc x d = refl
 

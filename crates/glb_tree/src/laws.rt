@@ -1,8 +1,11 @@
 //! The laws of expansion in any order. Each function does nothing: its contract is the law, for
 //! the trees of its program. The code has no recursion by depth, and these are why it needs none.
-ghost use Rattle.std.specs.Prelude.{◌≡◌, ◌+◌, ◌≤◌, ℕ, List, [], length, IsPermutation};
+ghost use Rattle.std.specs.Prelude.{◌≡◌, ◌+◌, ◌<◌, ◌≤◌, ◌↔◌, ℕ, suc, List, [], ◌∷◌, length};
+ghost use Rattle.std.specs.Prelude.{IsPermutation};
 ghost use Rattle.glb_laws.specs.Expansion.{Expansion, combined};
-ghost use Rattle.glb_laws.specs.Tree.{IsSmall, nodes};
+ghost use Rattle.glb_laws.specs.Joins.{join_to};
+ghost use Rattle.glb_laws.specs.Tree.{IsSmall, nodes, answer};
+ghost use Rattle.glb_tree.specs.Spread.{dealt};
 
 use glb_laws::{Monoid, Program};
 
@@ -38,4 +41,23 @@ pub fn combination_in_any_order<P: Program>(program: &P)
         IsPermutation xs ys →
         combined (P.value program.now) P.Value.combine P.Value.unit xs
         ≡ combined (P.value program.now) P.Value.combine P.Value.unit ys }
+{}
+
+/// A tree is its root and the trees of the root's children, dealt out to places: its nodes are the
+/// root and their nodes, and its answer is the root's value and their answer.
+pub fn a_tree_is_its_spread<P: Program>(program: &P)
+    ensures small { (root : P.Item) (places most : ℕ) → 0 < places →
+        IsSmall (P.children program.now) (root ∷ []) (suc most)
+        ↔ IsSmall (P.children program.now)
+        (join_to places (dealt places (P.children program.now root))) most }
+    ensures nodes { (root : P.Item) (places most : ℕ) → 0 < places →
+        IsPermutation (nodes (P.children program.now) (root ∷ []) (suc most))
+        (root ∷ nodes (P.children program.now)
+        (join_to places (dealt places (P.children program.now root))) most) }
+    ensures answer { (root : P.Item) (places most : ℕ) → 0 < places →
+        answer (P.children program.now) (P.value program.now) P.Value.unit P.Value.combine
+        (root ∷ []) (suc most)
+        ≡ P.Value.combine (P.value program.now root) (answer (P.children program.now)
+        (P.value program.now) P.Value.unit P.Value.combine
+        (join_to places (dealt places (P.children program.now root))) most) }
 {}

@@ -1,7 +1,10 @@
-//! Trees of items expanded in any order: the laws, and a run of whole trees in one bag.
+//! Trees of items expanded in any order: the laws, a run of whole trees in one bag, and roots that
+//! are dealt out to places.
 #![tactic(auto)]
 
+mod deal;
 pub mod laws;
 mod run;
 
+pub use deal::spread;
 pub use run::{Outcome, RunFault, bag_of, run_one};

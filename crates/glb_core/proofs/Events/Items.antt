@@ -22,7 +22,7 @@ use Rattle.glb_rules.specs.Steps.{IsEnabled, Step}
 use Rattle.glb_rules.specs.Lawful.{all_done}
 use Rattle.glb_rules.proofs.Invariant.Replaced.{replaced, becomes}
 use Rattle.glb_rules.proofs.Invariant.Frames.{across_change, name_cases}
-use Rattle.glb_rules.proofs.Sums.Joined.{join_split}
+use Rattle.glb_laws.proofs.Joins.{join_split}
 use Rattle.glb_rules.proofs.Invariant.Steps.{step_keeps}
 use Rattle.glb_rules.specs.declared.kinds.Kind.{Kind}
 use Rattle.glb_rules.specs.declared.kinds.Kind.TheVariants as kind

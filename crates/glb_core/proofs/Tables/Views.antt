@@ -12,7 +12,7 @@ use Rattle.glb_rules.specs.Setups.{IsProper}
 use Rattle.glb_rules.proofs.Invariant.Frames.{name_cases}
 use Rattle.glb_rules.proofs.Invariant.Replaced.{replaced, becomes}
 use Rattle.glb_rules.proofs.Sums.Totals.{sum_same}
-use Rattle.glb_rules.proofs.Sums.Joined.{join_same}
+use Rattle.glb_laws.proofs.Joins.{join_same}
 use Rattle.glb_rules.proofs.Invariant.Steps.{step_keeps}
 use Rattle.glb_rules.proofs.Finish.Histories.{live_small}
 use Rattle.glb_rules.proofs.EdgeLemmas.Marks.{apart}

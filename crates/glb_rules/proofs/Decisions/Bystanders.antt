@@ -20,7 +20,7 @@ use Rattle.glb_rules.specs.declared.local.Local.{Local}
 use Rattle.glb_rules.specs.declared.event.Event.{Event}
 use Rattle.glb_rules.specs.declared.event.Event.TheVariants as event
 use Rattle.glb_rules.proofs.Invariant.Frames.{name_cases}
-use Rattle.glb_rules.proofs.Sums.Joined.{join_same}
+use Rattle.glb_laws.proofs.Joins.{join_same}
 use Rattle.glb_rules.specs.Events.{other_end}
 
 map_same : {A C : Type 0} (f g : A → C) → ((x : A) → g x ≡ f x) → (xs : List A) → map g xs

@@ -16,7 +16,7 @@ use Rattle.glb_rules.specs.Steps.{Becomes, Step}
 use Rattle.glb_rules.specs.Lawful.{all_done, all_left, travelling}
 use Rattle.glb_rules.specs.History.{Run, first_line, start}
 use Rattle.glb_rules.proofs.Invariant.Frames.{kind_cases}
-use Rattle.glb_rules.proofs.Sums.Joined.{join_same, join_split}
+use Rattle.glb_laws.proofs.Joins.{join_same, join_split}
 use Rattle.glb_rules.specs.declared.kinds.Kind.{Kind}
 use Rattle.glb_rules.specs.declared.kinds.Kind.TheVariants as kind
 use Rattle.glb_rules.specs.declared.local.EdgeName.{EdgeName}

@@ -10,7 +10,7 @@ use Rattle.glb_rules.specs.Lawful.{Counted, Inner, IsLawful, ThiefSide, VictimSi
 use Rattle.glb_rules.specs.Lawful.{sum_of_own_edges}
 use Rattle.glb_rules.proofs.EdgeLemmas.Marks.{set_mark_at, set_mark_else}
 use Rattle.glb_rules.proofs.Invariant.Frames.{own_else}
-use Rattle.glb_rules.proofs.Sums.Joined.{same}
+use Rattle.glb_laws.proofs.Joins.{same}
 use Rattle.glb_rules.proofs.Invariant.Keeping.{Balanced, keeps, touched_at}
 use Rattle.glb_rules.proofs.Invariant.PlaceEvents.{thief_same}
 use Rattle.glb_rules.specs.declared.kinds.Kind.{Kind}

@@ -2,7 +2,7 @@ use Rattle.std.proofs.Common.{◌*◌, ap, ◌∙◌, refl, arith, length, get_o
 use Rattle.std.proofs.lemmas.List.{get_or-replicate, length-replicate}
 use Rattle.rand_pcg.specs.Lcg.{started, increment_of}
 use Rattle.rand_pcg.specs.Pcg.{multiplier_64}
-use Rattle.glb_rules.proofs.Sums.Joined.{same}
+use Rattle.glb_laws.proofs.Joins.{same}
 use Rattle.glb_rules.specs.declared.kinds.Mark.TheVariants as mark
 use Rattle.glb_core.specs.Tables.{mark_index}
 use Rattle.glb_core.proofs.Tables.EdgeRows.{mark_below}

@@ -1,6 +1,6 @@
 use Rattle.std.proofs.Common.{◌<◌, arith, ap, ◌∙◌, set, refl, length}
 use Rattle.std.proofs.lemmas.Result.{on_ok_weaker}
-use Rattle.glb_rules.proofs.Sums.Joined.{same}
+use Rattle.glb_laws.proofs.Joins.{same}
 use Rattle.glb_core.specs.Tables.{view_of, mark_index, edge_index, edge_in}
 use Rattle.glb_core.proofs.Tables.EdgeRows.{edge_index_below, mark_below}
 use Rattle.glb_core.proofs.Tables.PlaceRows.{size_of}

@@ -1,5 +1,5 @@
 use Rattle.std.proofs.Common.{◌<◌, arith, ap, ◌∙◌, set, subst, sym, refl, length}
-use Rattle.glb_rules.proofs.Sums.Joined.{same}
+use Rattle.glb_laws.proofs.Joins.{same}
 use Rattle.glb_core.specs.Tables.{view_of, edge_index}
 use Rattle.glb_core.specs.Standing.{EdgeRowFits}
 use Rattle.glb_core.proofs.Tables.EdgeRows.{edge_index_below}

@@ -4,18 +4,21 @@ use Rattle.std.proofs.Common.{append_assoc, IsPermutation}
 use Rattle.std.proofs.lemmas.Bool.{cases_eq}
 use Rattle.std.proofs.lemmas.List.Sorted.{IsPermutation-refl, IsPermutation-append_comm}
 use Rattle.std.proofs.lemmas.List.Sorted.{IsPermutation-append_left}
-use Rattle.glb_rules.specs.Joins.{join_to}
+use Rattle.glb_laws.specs.Joins.{join_to}
 
 module _ {I : Type 0} where
+  -- joins of lists that are the same
   pub join_same : (n : ℕ) (f g : ℕ → List I) → ((j : ℕ) → j < n → g j ≡ f j) → join_to n g
       ≡ join_to n f
   join_same zero f g h = refl
   join_same (suc n) f g h = let e = join_same n f g (λ j l. h j (omega arith)) in
       let d = h n (omega arith) in cc
 
+  -- a list and itself
   pub same : {xs ys : List I} → xs ≡ ys → IsPermutation xs ys
   same {xs = xs} e = rw (← e) (IsPermutation-refl xs)
 
+  -- the list that differs may stand first, before a rest that is common to both joins
   pub join_split : (n i : ℕ) (f g : ℕ → List I) → i < n → ((j : ℕ) → j < n → j ≢ i → g j ≡ f j) →
       (rest : List I) × IsPermutation (join_to n f) (f i ++ rest)
       × IsPermutation (join_to n g) (g i ++ rest)
