@@ -6,6 +6,7 @@ use Rattle.std.proofs.lemmas.Bool.{cases_Bool, eqb-true, eq-eqb, ltb-true, ltb-f
 use Rattle.std.proofs.lemmas.Option.{get_or_from_slice_get, slice_get_within}
 use Rattle.glb_stats.specs.declared.counters.Counters.{Counters}
 use Rattle.glb_stats.specs.Balances.{SumsBalance, PlaceBalances, EachPlaceBalances, IsBalanced}
+use Rattle.glb_stats.specs.Balances.{StartsByRoots}
 
 -- each of the first places balances by itself
 abbrev pub FirstBalance : ℕ → List Counters → List ℕ → List Bool → Type 0
@@ -74,6 +75,13 @@ sums_decided all nodes items asks denied given got line_given line_got sent_unit
           ∙ sym (ap (λ m. m + given) d ∙ ap (λ m. sum_by (λ c. c.denied) all + m) g)),
     )
 
+-- each of the first places started awake exactly where it had roots
+abbrev pub FirstStart : ℕ → List Bool → List ℕ → Type 0
+FirstStart n awake roots =
+    (p : ℕ) (is_awake : Bool) (number : ℕ)
+    → p < n → slice_get awake p ≡ Some is_awake → slice_get roots p ≡ Some number
+    → is_awake ≡ nat_lt 0 number
+
 -- where the sums balance, the places decide
 pub places_decided : (all : List Counters) (nodes : ℕ) (degrees : List ℕ) (awake : List Bool)
     (b : Bool)
@@ -81,3 +89,11 @@ pub places_decided : (all : List Counters) (nodes : ℕ) (degrees : List ℕ) (a
     → IsTrue b ↔ IsBalanced all nodes degrees awake
 places_decided all nodes degrees awake b sums each =
     (λ yes. record { sums = sums; places = each.0 yes }, λ balanced. each.1 balanced.places)
+
+-- where the counters balance, the starts decide
+pub starts_decided : (all : List Counters) (nodes : ℕ) (degrees : List ℕ) (awake : List Bool)
+    (roots : List ℕ) (b : Bool)
+    → IsBalanced all nodes degrees awake → (IsTrue b ↔ StartsByRoots awake roots)
+    → IsTrue b ↔ IsBalanced all nodes degrees awake × StartsByRoots awake roots
+starts_decided all nodes degrees awake roots b balanced starts =
+    (λ yes. (balanced, starts.0 yes), λ both. starts.1 both.1)

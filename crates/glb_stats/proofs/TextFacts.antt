@@ -6,6 +6,7 @@ use Rattle.glb_stats.specs.declared.counters.Counters.{Counters}
 use Rattle.glb_stats.specs.declared.counter.Counter.{Counter}
 use Rattle.glb_stats.specs.Counter.{name_of}
 use Rattle.glb_stats.specs.Text.{pair_text, numbers_text, place_text, places_text}
+use Rattle.glb_stats.specs.Text.{rooted_place_text, rooted_places_text}
 
 -- no counter is left
 numbers-none : (f : Counter → ℕ) (ks : List Counter) (i : ℕ) → length ks ≤ i
@@ -67,17 +68,39 @@ pub written_places : (p : ℕ) (cs : List Counters) (i : ℕ) (out whole : List 
 written_places p cs i out whole h so_far =
     sym (append-nil out) ∙ ap (λ l. out ++ l) (sym (places-none p cs i h)) ∙ so_far
 
--- a line of three pieces was ended
-pub ended_line : (start head number rest out new : List ℕ)
-    → out ≡ ((start ++ head) ++ number) ++ rest
-    → new ≡ out ++ 10 ∷ [] → new ≡ start ++ (((head ++ number) ++ rest) ++ 10 ∷ [])
-ended_line start head number rest out new e f =
-    f ∙ ap (λ l. l ++ 10 ∷ []) e ∙ simp append_assoc refl
+-- no place is left
+rooted-none : (p : ℕ) (cs : List Counters) (rs : List ℕ) (i : ℕ) → length cs ≤ i
+    → rooted_places_text p (drop i cs) (drop i rs) ≡ []
+unfolding rooted_places_text
+rooted-none p cs rs i h = rw (drop_all i cs h) refl
 
--- a line of two pieces was ended
-pub ended_short_line : (start head rest out new : List ℕ) → out ≡ (start ++ head) ++ rest
-    → new ≡ out ++ 10 ∷ [] → new ≡ start ++ ((head ++ rest) ++ 10 ∷ [])
-ended_short_line start head rest out new e f = f ∙ ap (λ l. l ++ 10 ∷ []) e ∙ simp append_assoc refl
+-- the first of the places that are left, with its roots
+rooted-step : (p : ℕ) (cs : List Counters) (rs : List ℕ) (i : ℕ) (d : Counters) (e : ℕ)
+    → i < length cs → i < length rs
+    → rooted_places_text p (drop i cs) (drop i rs)
+    ≡ rooted_place_text p (get_or cs i d) (get_or rs i e)
+    ++ rooted_places_text (p + 1) (drop (i + 1) cs) (drop (i + 1) rs)
+unfolding rooted_places_text
+rooted-step p cs rs i d e h k = rw (drop_more cs i d h, drop_more rs i e k) refl
+
+-- a place was written with its roots
+pub written_rooted_place : (p : ℕ) (cs : List Counters) (rs : List ℕ) (i : ℕ) (d : Counters) (e : ℕ)
+    (out out' whole : List ℕ) → i < length cs → i < length rs
+    → out' ≡ out ++ rooted_place_text p (get_or cs i d) (get_or rs i e)
+    → out ++ rooted_places_text p (drop i cs) (drop i rs) ≡ whole
+    → out' ++ rooted_places_text (p + 1) (drop (i + 1) cs) (drop (i + 1) rs) ≡ whole
+written_rooted_place p cs rs i d e out out' whole h k f so_far =
+    let rest : List ℕ = rooted_places_text (p + 1) (drop (i + 1) cs) (drop (i + 1) rs) in
+    ap (λ l. l ++ rest) f
+    ∙ append_assoc out (rooted_place_text p (get_or cs i d) (get_or rs i e)) rest
+    ∙ ap (λ l. out ++ l) (sym (rooted-step p cs rs i d e h k)) ∙ so_far
+
+-- all places were written with their roots
+pub written_rooted_places : (p : ℕ) (cs : List Counters) (rs : List ℕ) (i : ℕ)
+    (out whole : List ℕ) → length cs ≤ i
+    → out ++ rooted_places_text p (drop i cs) (drop i rs) ≡ whole → out ≡ whole
+written_rooted_places p cs rs i out whole h so_far =
+    sym (append-nil out) ∙ ap (λ l. out ++ l) (sym (rooted-none p cs rs i h)) ∙ so_far
 
 -- the whole text, in the order in which it is written
 pub whole_text : (start head number places out total new : List ℕ)

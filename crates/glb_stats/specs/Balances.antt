@@ -1,5 +1,6 @@
 -- The balances of the places' counters: what a whole run leaves equal.
-use Rattle.std.specs.Prelude.{◌≡◌, ℕ, ◌+◌, ◌^◌, ◌<◌, Bool, cond, Some, List, sum_by, slice_get}
+use Rattle.std.specs.Prelude.{◌≡◌, ℕ, ◌+◌, ◌^◌, ◌<◌, Bool, cond, nat_lt, Some, List, sum_by}
+use Rattle.std.specs.Prelude.{slice_get}
 use Rattle.glb_stats.specs.declared.counters.Counters.{Counters}
 
 -- how many lines of a place had their request remembered at the start: all of them if it started
@@ -40,6 +41,13 @@ pub record IsBalanced (all : List Counters) (nodes : ℕ) (degrees : List ℕ) (
     : Type 0 where
   pub sums : SumsBalance all nodes
   pub places : EachPlaceBalances all degrees awake
+
+-- each place started awake exactly where it had roots
+abbrev pub StartsByRoots : List Bool → List ℕ → Type 0
+StartsByRoots awake roots =
+    (p : ℕ) (is_awake : Bool) (number : ℕ)
+    → slice_get awake p ≡ Some is_awake → slice_get roots p ≡ Some number
+    → is_awake ≡ nat_lt 0 number
 
 -- the numbers of units stay below 2^121, so that those of 64 places have a sum of 128 bits
 pub record HasSmallUnits (c : Counters) : Type 0 where

@@ -2,18 +2,19 @@
 ghost use Rattle.std.specs.Prelude.{◌≡◌, ◌≤◌, ◌<◌, ◌^◌, ◌↔◌, IsTrue, length, All, sum_by};
 ghost use Rattle.glb_stats.specs.Counter.{number_of};
 ghost use Rattle.glb_stats.specs.Balances.{SumsBalance, PlaceBalances, EachPlaceBalances};
-ghost use Rattle.glb_stats.specs.Balances.{IsBalanced, HasSmallUnits};
+ghost use Rattle.glb_stats.specs.Balances.{IsBalanced, StartsByRoots, HasSmallUnits};
 
 use super::counter::Counter;
 use super::counters::Counters;
 
 /// What the balances need to know of a run: the number of all nodes of its trees, and for each
-/// place how many lifelines it has and whether it started with items.
+/// place how many lifelines it has, whether it started with items, and how many roots it was given.
 #[derive(Debug, Drop)]
 pub struct StatJob {
     pub items: u64,
     pub degree: Vec<u32>,
     pub awake: Vec<bool>,
+    pub roots: Vec<u32>,
 }
 
 /// A counter's sum over all places.
@@ -57,6 +58,19 @@ fn each_place_balances(all: &[Counters], job: &StatJob) -> bool
     true
 }
 
+/// Whether each place started awake exactly where it had roots.
+fn starts_by_roots(job: &StatJob) -> bool
+    requires { length job.now.roots.items ≡ length job.now.awake.items }
+    ensures { IsTrue result ↔ StartsByRoots job.now.awake.items job.now.roots.items }
+{
+    for place in 0..job.awake.len() {
+        if job.awake[place] != (job.roots[place] > 0) {
+            return false;
+        }
+    }
+    true
+}
+
 /// Whether the sums over all places balance.
 fn sums_balance(all: &[Counters], nodes: u64) -> bool
     requires few { length all.now ≤ 64 }
@@ -79,8 +93,8 @@ fn sums_balance(all: &[Counters], nodes: u64) -> bool
         && asks == denied + given
 }
 
-/// Whether the counters of all places balance. It takes no memory.
-pub fn balance(all: &[Counters], job: &StatJob) -> bool
+/// Whether the counters of all places balance.
+fn counters_balance(all: &[Counters], job: &StatJob) -> bool
     requires degrees { length job.now.degree.items ≡ length all.now }
     requires awake { length job.now.awake.items ≡ length all.now }
     requires few { length all.now ≤ 64 }
@@ -89,4 +103,19 @@ pub fn balance(all: &[Counters], job: &StatJob) -> bool
         IsBalanced all.now job.now.items job.now.degree.items job.now.awake.items }
 {
     sums_balance(all, job.items) && each_place_balances(all, job)
+}
+
+/// Whether the counters of all places balance, and each place started awake exactly where it had
+/// roots. It takes no memory.
+pub fn balance(all: &[Counters], job: &StatJob) -> bool
+    requires degrees { length job.now.degree.items ≡ length all.now }
+    requires awake { length job.now.awake.items ≡ length all.now }
+    requires roots { length job.now.roots.items ≡ length all.now }
+    requires few { length all.now ≤ 64 }
+    requires units { All HasSmallUnits all.now }
+    ensures { IsTrue result ↔
+        IsBalanced all.now job.now.items job.now.degree.items job.now.awake.items
+        × StartsByRoots job.now.awake.items job.now.roots.items }
+{
+    counters_balance(all, job) && starts_by_roots(job)
 }

@@ -12,4 +12,4 @@ mod text;
 pub use balances::{StatJob, balance};
 pub use counters::Counters;
 pub use report::Report;
-pub use text::write_stats;
+pub use text::{write_stats, write_stats_roots};

@@ -1,19 +1,21 @@
 //! Worked rows of the balances and of the report.
 ghost use Rattle.std.specs.Prelude.{◌≡◌, IfOk, length};
 
-use super::{Counters, StatJob, balance, write_stats};
+use super::{Counters, StatJob, balance, write_stats, write_stats_roots};
 use std::alloc::Global;
 use std::test::Fail;
 
-/// A job of one place.
+/// A job of one place, which has a root where it is awake.
 fn alone(alloc: Global, items: u64, degree: u32, awake: bool) -> Result<StatJob, Fail>
     ensures degree { IfOk result (λ job. length job.degree.items ≡ 1) }
     ensures awake { IfOk result (λ job. length job.awake.items ≡ 1) }
+    ensures roots { IfOk result (λ job. length job.roots.items ≡ 1) }
 {
     Ok(StatJob {
         items,
         degree: vec![in alloc; degree]?,
         awake: vec![in alloc; awake]?,
+        roots: vec![in alloc; u32::from(awake)]?,
     })
 }
 
@@ -60,6 +62,7 @@ fn balances_hold_at_the_edges(rt: HostRuntime) -> Result<(), Fail> {
             items,
             degree: Vec::new(alloc),
             awake: Vec::new(alloc),
+            roots: Vec::new(alloc),
         };
         assert_eq!(rt; balance(&[], &job), holds);
     }
@@ -82,6 +85,7 @@ fn balances_hold_at_the_edges(rt: HostRuntime) -> Result<(), Fail> {
         items: 0,
         degree: vec![in alloc; 1; 64]?,
         awake: vec![in alloc; true; 64]?,
+        roots: vec![in alloc; 1; 64]?,
     };
     assert!(rt; balance(&[most; 64], &job));
     assert!(rt;
@@ -161,6 +165,45 @@ fn two_places_and_their_sums_are_told(rt: HostRuntime) -> Result<(), Fail> {
         total items 2 asks 4 shrugs 6 denied 8 given 10 got 12 line_asks 14 line_given 16 \
         line_got 18 sent_units 1329227995784915872903807060280344577 got_units 22 sleeps 24 \
         wakes 26\n";
+    assert_eq!(rt; out.as_slice(), want.as_bytes());
+    Ok(())
+}
+
+#[test]
+fn a_place_is_awake_where_it_has_roots(rt: HostRuntime) -> Result<(), Fail> {
+    let alloc = rt.alloc();
+    let awake = Counters {
+        items: 54,
+        sleeps: 1,
+        ..Counters::ZERO
+    };
+    for (roots, holds) in [(0, false), (1, true), (9, true)] {
+        let job = StatJob {
+            items: 54,
+            degree: vec![in alloc; 0]?,
+            awake: vec![in alloc; true]?,
+            roots: vec![in alloc; roots]?,
+        };
+        assert_eq!(rt; balance(&[awake], &job), holds);
+    }
+    Ok(())
+}
+
+#[test]
+fn places_are_told_with_their_roots(rt: HostRuntime) -> Result<(), Fail> {
+    let mut out = Vec::from_slice(rt.alloc(), b"placements 2\n")?;
+    let place = Counters {
+        items: 4,
+        ..Counters::ZERO
+    };
+    write_stats_roots(&[place, Counters::ZERO], &[3, 0], &mut out)?;
+    let want = "placements 2\nplaces 2\n\
+        place 0 items 4 asks 0 shrugs 0 denied 0 given 0 got 0 line_asks 0 line_given 0 line_got 0 \
+        sent_units 0 got_units 0 sleeps 0 wakes 0 roots 3\n\
+        place 1 items 0 asks 0 shrugs 0 denied 0 given 0 got 0 line_asks 0 line_given 0 line_got 0 \
+        sent_units 0 got_units 0 sleeps 0 wakes 0 roots 0\n\
+        total items 4 asks 0 shrugs 0 denied 0 given 0 got 0 line_asks 0 line_given 0 line_got 0 \
+        sent_units 0 got_units 0 sleeps 0 wakes 0 roots 3\n";
     assert_eq!(rt; out.as_slice(), want.as_bytes());
     Ok(())
 }

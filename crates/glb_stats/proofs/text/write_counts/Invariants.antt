@@ -1,12 +1,10 @@
 use Rattle.std.proofs.Common.{◌≡◌, ◌++◌, drop, string_bytes}
-use Rattle.std.specs.Prelude.{codes, decimal}
 use Rattle.glb_stats.specs.Counter.{every_counter, number_of}
 use Rattle.glb_stats.specs.Text.{numbers_text}
-use Rattle.glb_stats.proofs.text.write_place.Given as goal
+use Rattle.glb_stats.proofs.text.write_counts.Given as goal
 
 abbrev pub invariant-loop-counter : goal.invariant-loop-counter
 invariant-loop-counter l =
     string_bytes l.out
     ++ numbers_text (λ k. number_of k l.counters) (drop l.counter-index l.counter-items)
-    ≡ string_bytes l.fn.out ++ codes "place " ++ decimal l.fn.place
-    ++ numbers_text (λ k. number_of k l.counters) every_counter
+    ≡ string_bytes l.fn.out ++ numbers_text (λ k. number_of k l.counters) every_counter

@@ -1,8 +1,7 @@
 use Rattle.std.proofs.Common.{arith, sum_by}
-use Rattle.std.specs.Prelude.{codes}
 use Rattle.glb_stats.specs.Counter.{number_of}
-use Rattle.glb_stats.proofs.TextFacts.{written_pair, written_all, ended_short_line}
-use Rattle.glb_stats.proofs.text.write_total.Goals as goal
+use Rattle.glb_stats.proofs.TextFacts.{written_pair, written_all}
+use Rattle.glb_stats.proofs.text.write_sums.Goals as goal
 
 pub loop-counter-preserved : goal.loop-counter-preserved
 loop-counter-preserved c =
@@ -12,8 +11,5 @@ loop-counter-preserved c =
 
 pub returns : goal.returns
 returns c =
-    let done =
     written_all (λ k. sum_by (number_of k) c.args.all.now) c.all-counter-items.result
     c.loop-counter.counter-index _ _ (omega arith) c.loop-counter.invariant
-    in
-    ended_short_line _ (codes "total") _ _ _ done c.in_ok-push_str-2.ensures.bytes

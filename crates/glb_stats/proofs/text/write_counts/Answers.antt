@@ -1,8 +1,7 @@
 use Rattle.std.proofs.Common.{arith}
-use Rattle.std.specs.Prelude.{codes, decimal}
 use Rattle.glb_stats.specs.Counter.{number_of}
-use Rattle.glb_stats.proofs.TextFacts.{written_pair, written_all, ended_line}
-use Rattle.glb_stats.proofs.text.write_place.Goals as goal
+use Rattle.glb_stats.proofs.TextFacts.{written_pair, written_all}
+use Rattle.glb_stats.proofs.text.write_counts.Goals as goal
 
 pub loop-counter-preserved : goal.loop-counter-preserved
 loop-counter-preserved c =
@@ -12,8 +11,5 @@ loop-counter-preserved c =
 
 pub returns : goal.returns
 returns c =
-    let done =
     written_all (λ k. number_of k c.args.counters.now) c.all-counter-items.result
     c.loop-counter.counter-index _ _ (omega arith) c.loop-counter.invariant
-    in
-    ended_line _ (codes "place ") (decimal c.args.place) _ _ _ done c.in_ok-push_str.ensures.bytes
