@@ -219,10 +219,13 @@ fn eight_balance<R: Abort>(
 {
     let mut awake = vec![in alloc; false; 8]?;
     awake[0] = true;
+    let mut roots = vec![in alloc; 0u32; 8]?;
+    roots[0] = 1;
     let job = StatJob {
         items,
         degree: vec![in alloc; 3u32; 8]?,
         awake,
+        roots,
     };
     assert_eq!(rt; counters.len(), 8);
     Ok(balance(counters, &job))
