@@ -89,7 +89,7 @@ module _ {X : Type 0} (children : X → List X) where
       Contains-cons_cases x _ y (subst (λ l. Contains l y) (tree-suc children x d) h)
 
   -- an item is in its tree
-  own_member : (x : X) (d : ℕ) → Contains (tree children x (suc d)) x
+  pub own_member : (x : X) (d : ℕ) → Contains (tree children x (suc d)) x
   own_member x d = subst (λ l. Contains l x) (sym (tree-suc children x d)) (Contains-first x _)
 
   -- the root is a node

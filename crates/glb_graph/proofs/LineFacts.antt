@@ -8,7 +8,8 @@ use Rattle.std.proofs.lemmas.List.{get_or_at, get_or_append_left}
 use Rattle.std.proofs.lemmas.Bool.{cases_lt, cases_eq, ne_eqb}
 use Rattle.glb_graph.specs.GraphText.{lines_of, add_to_first, AreDigits, number_from, IsPair}
 use Rattle.glb_graph.proofs.TextFacts.{same_pair}
-use Rattle.glb_graph.specs.inner.Reading.{NoDigit, BeginsWithNumeral, BeginsWith}
+use Rattle.glb_graph.specs.FirstLines.{BeginsWith}
+use Rattle.glb_graph.specs.inner.Reading.{NoDigit, BeginsWithNumeral}
 
 -- no bytes have no lines
 pub lines_none : (bytes : List ℕ) → length bytes ≡ 0 → lines_of bytes ≡ []

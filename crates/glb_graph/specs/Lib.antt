@@ -4,6 +4,7 @@ pub mod Distances
 pub mod Pairs
 pub mod Spots
 pub mod GraphText
+pub mod FirstLines
 pub mod Reading
 pub mod inner
 pub use Rattle.glb_laws.specs.Bounded

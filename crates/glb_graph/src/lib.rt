@@ -14,4 +14,4 @@ mod text;
 pub use dist::{Dist, Spot};
 pub use graph::Graph;
 pub use limits::{MOST_EDGES, MOST_VERTICES};
-pub use text::{GraphFault, read_graph};
+pub use text::{GraphFault, read_graph, read_pair};

@@ -2,7 +2,8 @@
 ghost use Rattle.std.specs.Prelude.{◌≡◌, ℕ, ◌≤◌, List, [], ◌∷◌, IfSome, IfNone, IfOk, IfErr};
 ghost use Rattle.glb_graph.specs.GraphText.{IsPair, IsEdge, Edges, BytesSay};
 ghost use Rattle.glb_graph.specs.Reading.{IsTextOf, HasTextFault};
-ghost use Rattle.glb_graph.specs.inner.Reading.{BeginsWith, BeginsWithout, BeginsWithNumeral};
+ghost use Rattle.glb_graph.specs.FirstLines.{BeginsWith, BeginsWithout};
+ghost use Rattle.glb_graph.specs.inner.Reading.{BeginsWithNumeral};
 
 use super::graph::Graph;
 use super::limits::{MOST_EDGES, MOST_VERTICES};
@@ -55,7 +56,7 @@ fn after_byte(bytes: &[u8], byte: u8) -> Option<&[u8]>
 }
 
 /// The two numbers of the first line, and what follows the line.
-fn pair(bytes: &[u8]) -> Option<(u64, u64, &[u8])>
+pub fn read_pair(bytes: &[u8]) -> Option<(u64, u64, &[u8])>
     ensures some { IfSome result (λ p. BeginsWith (λ line. IsPair line p.0 p.1) bytes.now p.2.now) }
     ensures none { IfNone result ((a b : ℕ) → BeginsWithout (λ line. IsPair line a b) bytes.now) }
 {
@@ -77,7 +78,7 @@ fn edge(bytes: &[u8], vertices: u64) -> Option<(u32, u32, &[u8])>
     ensures none { IfNone result ((a b : ℕ) →
         BeginsWithout (λ line. IsEdge vertices line a b) bytes.now) }
 {
-    let (from, to, after) = pair(bytes)?;
+    let (from, to, after) = read_pair(bytes)?;
     if from < vertices && to < vertices {
         Some((from as u32, to as u32, after))
     } else {
@@ -93,7 +94,7 @@ fn read_pairs(alloc: Global, bytes: &[u8]) -> Result<(u32, Vec<(u32, u32)>), Gra
     if bytes.len() == 0 {
         return Err(GraphFault::BadEnd { line: 1 });
     }
-    let Some((vertices, edges, after)) = pair(bytes) else {
+    let Some((vertices, edges, after)) = read_pair(bytes) else {
         return Err(GraphFault::BadLine { line: 1 });
     };
     if vertices > MOST_VERTICES || edges > MOST_EDGES {

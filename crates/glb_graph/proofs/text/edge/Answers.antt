@@ -1,6 +1,6 @@
 use Rattle.std.proofs.Common.{ℕ, arith}
 use Rattle.glb_graph.specs.GraphText.{IsEdge}
-use Rattle.glb_graph.specs.inner.Reading.{BeginsWithout}
+use Rattle.glb_graph.specs.FirstLines.{BeginsWithout}
 use Rattle.glb_graph.proofs.LineFacts.{none_holds, first_pair}
 use Rattle.glb_graph.proofs.text.edge.Goals as goal
 use Rattle.glb_graph.proofs.text.edge.Goals.{else-from-vertices-via-then-from-vertices+else-to-vertices}

@@ -1,9 +1,9 @@
 use Rattle.std.proofs.Common.{ℕ, arith}
 use Rattle.glb_graph.specs.GraphText.{IsPair}
-use Rattle.glb_graph.specs.inner.Reading.{BeginsWithout}
+use Rattle.glb_graph.specs.FirstLines.{BeginsWithout}
 use Rattle.glb_graph.proofs.LineFacts.{none_holds, pair_end, pair_feed, pair_no_first}
 use Rattle.glb_graph.proofs.LineFacts.{pair_no_space, pair_no_second, pair_no_end}
-use Rattle.glb_graph.proofs.text.pair.Goals as goal
+use Rattle.glb_graph.proofs.text.read_pair.Goals as goal
 
 pub returns-in_err-first-clause-none : goal.returns-in_err-first-clause-none
 returns-in_err-first-clause-none c =

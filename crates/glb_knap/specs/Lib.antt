@@ -1,0 +1,9 @@
+pub mod Ranking
+pub mod Packs
+pub mod Choices
+pub mod KnapText
+pub mod inner
+pub use Rattle.glb_bound.specs.Best
+pub use Rattle.glb_laws.specs.Bounded
+pub use Rattle.glb_laws.specs.Tree
+pub use Rattle.glb_graph.specs.GraphText
