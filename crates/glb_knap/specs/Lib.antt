@@ -1,5 +1,6 @@
 pub mod Ranking
 pub mod Packs
+pub mod CapLaws
 pub mod Choices
 pub mod KnapText
 pub mod inner

@@ -1,4 +1,3 @@
--- The laws of the search, which the language wants beside the definitions; no contract cites them.
+-- What the laws of the search stand on; no contract cites it.
 pub mod Ranks
 pub mod Caps
-pub mod CapLaws

@@ -3,7 +3,7 @@ ghost use Rattle.std.specs.Prelude.{◌≡◌, ◌↔◌, ℕ, length, IfOk};
 ghost use Rattle.glb_bound.specs.Best.{IsBest, worth_of};
 ghost use Rattle.glb_knap.specs.Choices.{IsOptimum};
 ghost use Rattle.glb_knap.specs.Packs.{IsProblem, empty_pack, packs_below, value_of, cap_of};
-ghost use Rattle.glb_knap.specs.inner.CapLaws.{value_is_proper, caps_value, caps_children};
+ghost use Rattle.glb_knap.specs.CapLaws.{value_is_proper, caps_value, caps_children};
 
 use super::line::{Line, add_most, rank};
 use super::pack::Pack;
