@@ -67,6 +67,10 @@ fabric_rule = field_rule (codes "fabric") (Choice (codes "inbox" ∷ codes "cell
 abbrev pub stats_rule : FieldRule
 stats_rule = field_rule (codes "stats") Flag
 
+-- whether a run starts from the children of the root, at all places
+abbrev pub spread_rule : FieldRule
+spread_rule = field_rule (codes "spread") Flag
+
 -- the numbers among the options of a job that has a tree
 abbrev pub run_numbers : List FieldRule
 run_numbers = places_rule ∷ batch_rule ∷ tries_rule ∷ base_rule ∷ seed_rule ∷ limit_rule ∷ []
@@ -77,7 +81,7 @@ run_choices = driver_rule ∷ fabric_rule ∷ []
 
 -- the flags among them
 abbrev pub run_flags : List FieldRule
-run_flags = stats_rule ∷ []
+run_flags = stats_rule ∷ spread_rule ∷ []
 
 -- the options of a job that has a tree
 abbrev pub run_options : List FieldRule

@@ -4,8 +4,9 @@ use Rattle.std.specs.Prelude.{Option, Some, None, Result, Ok, Err}
 use Rattle.std.specs.Str.{bytes_eq}
 use Rattle.glb_words.specs.Rules.{Text, FormRule, Number, FieldRule, JobRule}
 use Rattle.glb_words.specs.Rules.{places_rule, batch_rule, tries_rule, base_rule, seed_rule}
-use Rattle.glb_words.specs.Rules.{limit_rule, driver_rule, fabric_rule, stats_rule, queens_n_rule}
-use Rattle.glb_words.specs.Rules.{uts_b0_rule, uts_m_rule, uts_q_rule, uts_seed_rule, trial_k_rule}
+use Rattle.glb_words.specs.Rules.{limit_rule, driver_rule, fabric_rule, stats_rule, spread_rule}
+use Rattle.glb_words.specs.Rules.{queens_n_rule, uts_b0_rule, uts_m_rule, uts_q_rule, uts_seed_rule}
+use Rattle.glb_words.specs.Rules.{trial_k_rule}
 use Rattle.glb_words.specs.Words.{Given, given_value, number_of, read_words}
 use Rattle.glb_words.specs.declared.fault.WordFault.{WordFault}
 use Rattle.glb_words.specs.declared.forms.JobName.{JobName}
@@ -82,6 +83,7 @@ settings_by name value = record {
   driver = driver_or_one (value driver_rule.name);
   fabric = fabric_or_cells (value fabric_rule.name);
   stats = is_on (value stats_rule.name);
+  spread = is_on (value spread_rule.name);
 }
 
 -- the settings of words that were read, or the fault of others

@@ -84,9 +84,14 @@ pub(crate) const STATS: Field = Field {
     form: Form::Flag,
 };
 
+pub(crate) const SPREAD: Field = Field {
+    name: "spread",
+    form: Form::Flag,
+};
+
 /// The options of a job that has a tree.
-const RUN_OPTIONS: [Field; 9] = [
-    PLACES, BATCH, TRIES, BASE, SEED, LIMIT, DRIVER, FABRIC, STATS,
+const RUN_OPTIONS: [Field; 10] = [
+    PLACES, BATCH, TRIES, BASE, SEED, LIMIT, DRIVER, FABRIC, STATS, SPREAD,
 ];
 
 pub(crate) const QUEENS_N: Field = Field {

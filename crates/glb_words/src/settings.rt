@@ -15,8 +15,8 @@ ghost use Rattle.glb_words.specs.inner.Ranges.{ValueFits, AllFit, ValuesFit};
 use super::command::parse;
 use super::fault::OrderFault;
 use super::forms::{
-    BASE, BATCH, DRIVER, FABRIC, Field, Form, JobName, LIMIT, PLACES, QUEENS_N, SEED, STATS,
-    TRIAL_K, TRIES, UTS_B0, UTS_M, UTS_Q, UTS_SEED,
+    BASE, BATCH, DRIVER, FABRIC, Field, Form, JobName, LIMIT, PLACES, QUEENS_N, SEED, SPREAD,
+    STATS, TRIAL_K, TRIES, UTS_B0, UTS_M, UTS_Q, UTS_SEED,
 };
 use super::reader::{number_in, read_values};
 use clap::ArgMatches;
@@ -69,6 +69,7 @@ pub struct Settings {
     pub driver: Driver,
     pub fabric: FabricKind,
     pub stats: bool,
+    pub spread: bool,
 }
 
 /// The number of a field, or its default.
@@ -186,6 +187,7 @@ fn settings_of(job: JobName, matches: &ArgMatches<'_>) -> Settings
         driver: driver_of(matches),
         fabric: fabric_of(matches),
         stats: flag_of(matches, STATS),
+        spread: flag_of(matches, SPREAD),
     }
 }
 

@@ -41,6 +41,7 @@ fn options_are_read_in_both_forms(rt: HostRuntime) -> Result<(), Fail> {
         driver: Driver::Turns,
         fabric: FabricKind::Inbox,
         stats: true,
+        spread: false,
     };
     assert_eq!(rt; read_settings(alloc, words.as_slice(), false), Ok(settings));
     Ok(())
@@ -61,6 +62,7 @@ fn each_option_has_the_other_form(rt: HostRuntime) -> Result<(), Fail> {
         "--seed",
         "1",
         "--limit=1000",
+        "--spread",
         "--driver",
         "threads",
         "--fabric=inbox",
@@ -77,6 +79,7 @@ fn each_option_has_the_other_form(rt: HostRuntime) -> Result<(), Fail> {
         driver: Driver::Threads,
         fabric: FabricKind::Inbox,
         stats: false,
+        spread: true,
     };
     assert_eq!(rt; read_settings(alloc, words.as_slice(), false), Ok(settings));
     Ok(())
@@ -105,6 +108,7 @@ fn the_fabric_is_of_cells_unless_inboxes_are_named(rt: HostRuntime) -> Result<()
             driver: Driver::One,
             fabric,
             stats: false,
+            spread: false,
         };
         assert!(rt; words.len() < 100);
         assert_eq!(rt; read_settings(alloc, words.as_slice(), true), Ok(settings));
@@ -115,7 +119,7 @@ fn the_fabric_is_of_cells_unless_inboxes_are_named(rt: HostRuntime) -> Result<()
 #[test]
 fn the_first_fault_is_told(rt: HostRuntime) -> Result<(), Fail> {
     let alloc = rt.alloc();
-    let cases: [(&[&str], WordKind, u32); 45] = [
+    let cases: [(&[&str], WordKind, u32); 47] = [
         (&[], WordKind::Missing, 0),
         (&["queen", "8"], WordKind::UnknownJob, 0),
         (&["", "8"], WordKind::UnknownJob, 0),
@@ -170,6 +174,12 @@ fn the_first_fault_is_told(rt: HostRuntime) -> Result<(), Fail> {
             &["queens", "8", "--stats", "--stats"],
             WordKind::Repeated,
             3,
+        ),
+        (&["queens", "8", "--spread=1"], WordKind::UnknownOption, 2),
+        (
+            &["queens", "8", "--spread", "--stats", "--spread"],
+            WordKind::Repeated,
+            4,
         ),
         (
             &["queens", "8", "--fabric", "lanes"],
