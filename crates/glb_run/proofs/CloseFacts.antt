@@ -7,7 +7,7 @@ use Rattle.std.specs.Prelude.{All, Bool, true, false, cond, ◌==◌, Some, slic
 use Rattle.std.specs.List.{flat_map, range_with_len}
 use Rattle.std.proofs.lemmas.List.Elements.{All-weaker}
 use Rattle.std.proofs.lemmas.List.FromFn.{length-map-range_with_len, get_or-map-range_with_len}
-use Rattle.std.proofs.lemmas.List.Sorted.{length_permutation}
+use Rattle.std.proofs.lemmas.List.Sorted.{length_permutation, IsPermutation-refl}
 use Rattle.std.proofs.lemmas.List.Sums.{get_or-le-sum_by}
 use Rattle.std.proofs.lemmas.Option.{same_Some, slice_get-get_or, slice_get_within}
 use Rattle.std.proofs.lemmas.Option.{get_or_from_slice_get}
@@ -31,6 +31,7 @@ use Rattle.glb_place.specs.Close.{Closes, IsBounded, bag_of, counters_in, done_o
 use Rattle.glb_place.specs.Records.{setup_in}
 use Rattle.glb_run.specs.ThreadedRuns.{HasSmallCounters, IsThreadsReport}
 use Rattle.glb_run.specs.inner.Plays.{AreNumbered}
+use Rattle.glb_run.proofs.RootFacts.{starts_by_roots}
 use Rattle.glb_run.proofs.SmallFacts.{IsFew, all_small}
 
 -- equal functions make the same list
@@ -308,4 +309,5 @@ module _ {I : Type 0} (children : I → List I) (q : Params) (limits : IsWithinL
             (subst (λ (x : Counters). x.items ≤ 2 ^ 40) a.told a.few));
       };
       small = small;
+      starts = starts_by_roots c q roots roots graph.places (λ p low. IsPermutation-refl (roots p));
     }

@@ -5,7 +5,6 @@ use Rattle.std.specs.Prelude.{◌≤◌, Bool, Option, Some, None, IsSome, lengt
 use Rattle.std.proofs.lemmas.List.{length-append}
 use Rattle.std.proofs.lemmas.List.{append-nil}
 use Rattle.glb_io.specs.Bytes.{Takes, NoneLeft}
-use Rattle.glb_laws.specs.Tree.{IsSmall}
 use Rattle.glb_words.specs.Rules.{Text}
 use Rattle.glb_words.specs.declared.fault.WordFault.{WordFault}
 use Rattle.glb_words.specs.declared.settings.Job.{Job}
@@ -20,7 +19,7 @@ use Rattle.glb_run.specs.declared.order.Order.{Order}
 use Rattle.glb_run.specs.declared.status.Status.{Status}
 use Rattle.glb_run.specs.declared.status.Status.TheVariants as status
 use Rattle.glb_run.specs.Orders.{read_order}
-use Rattle.glb_run.specs.Runs.{at_first, all_roots}
+use Rattle.glb_run.specs.Runs.{IsWithin}
 use Rattle.glb_run.specs.Streams.{Change, CallRule, Reads, ReadsAll}
 use Rattle.glb_run.specs.Ends.{ReadsSource, HasRead, HasRun, Ends}
 use Rattle.glb_run.specs.Jobs.{IsWithinLimitOf, IsWithinLimit, HasTooManyOf}
@@ -97,9 +96,7 @@ not_large job.Dist order source input read items tells has small large =
     let rows = one_graph input small.0 large.0 small.1
     (subst (λ bytes. IsTextOf bytes large.0) same large.1) in
     large.2.many.large
-    (subst (λ r. IsSmall (spot_children r) (all_roots order (at_first Root)) order.params.limit)
-    rows
-    small.2)
+    (subst (λ r. IsWithin (spot_children r) order Root) rows small.2)
 
 -- the input of a job that is the distances of a graph is graph text
 says_graph : (j : Job) (order : Order) (input : List ℕ) → j ≡ job.Dist

@@ -1,7 +1,9 @@
--- What a run on threads from one root tells of the root's tree.
-use Rattle.std.proofs.Common.{◌≡◌, ℕ, ◌≤◌, List, [], ◌∷◌, refl, sym, ap, ◌∙◌, subst, map, arith}
-use Rattle.std.specs.Prelude.{IfErr, IsPermutation, Result, Ok, Err}
+-- What a run on threads of lists of roots tells of the order that starts with them.
+use Rattle.std.proofs.Common.{◌≡◌, ℕ, ◌≤◌, List, [], ◌∷◌, length, refl, sym, ap, ◌∙◌, subst, map, arith}
+use Rattle.std.specs.Prelude.{IsPermutation}
 use Rattle.std.specs.List.{range_with_len}
+use Rattle.std.proofs.lemmas.List.FromFn.{length-map-range_with_len}
+use Rattle.std.proofs.lemmas.List.Sorted.{IsPermutation-refl}
 use Rattle.glb_tree.specs.Runs.{IsOutcome, IsTooMany, HasCause}
 use Rattle.glb_tree.specs.declared.run.RunFault.{RunFault}
 use Rattle.glb_tree.specs.declared.run.RunFault.TheVariants as run_fault
@@ -18,10 +20,12 @@ use Rattle.glb_words.specs.declared.settings.Driver.TheVariants as driver
 use Rattle.glb_words.specs.declared.settings.FabricKind.{FabricKind}
 use Rattle.glb_words.specs.declared.settings.FabricKind.TheVariants as fabric
 use Rattle.glb_run.specs.ThreadedRuns.{IsPlayed, IsThreadsReport}
-use Rattle.glb_run.specs.Runs.{at_first, all_roots, AreCounters, PassesByBatch}
+use Rattle.glb_run.specs.Roots.{roots_of, all_roots, numbers_of, numbers_by}
+use Rattle.glb_run.specs.Runs.{AreCounters, PassesByBatch}
 use Rattle.glb_run.specs.inner.Stops.{StopsRun}
 use Rattle.glb_run.specs.inner.Answers.{IsAnswer}
 use Rattle.glb_run.specs.declared.order.Order.{Order}
+use Rattle.glb_run.proofs.RootFacts.{starts_by_roots}
 use Rattle.glb_run.proofs.TurnsFacts.{same_roots}
 
 -- functions that agree give the same list
@@ -40,44 +44,38 @@ every_report fabric.Inbox r = r
 every_report fabric.Cells r = r.threads
 
 module _ {I V : Type 0} (children : I → List I) (value : I → V) (combine : V → V → V) (unit : V)
-    (root : I) (order : Order) (some : 1 ≤ order.params.places) (lists : ℕ → List I)
-    (lists_are : (p : ℕ) → lists p ≡ at_first root p) (threads : order.driver ≡ driver.Threads)
+    (root : I) (order : Order) (lists : ℕ → List I)
+    (lists_are : (p : ℕ) → lists p ≡ roots_of children order root p)
+    (threads : order.driver ≡ driver.Threads)
   where
-    -- the lists and the root at the first place are the same roots
-    roots_same : join_to order.params.places lists ≡ all_roots order (at_first root)
-    roots_same = same_roots children value combine unit root order some lists lists_are
+    -- the lists are the roots of the order
+    roots_same : join_to order.params.places lists ≡ all_roots children order root
+    roots_same = same_roots children value combine unit root order lists lists_are
 
     -- why a run of such lists on threads ended early
-    stops_fault : (fault : RunFault)
+    pub stops_fault : (fault : RunFault)
         → HasCause children (join_to order.params.places lists) order.params.limit fault
-        → StopsRun children (at_first root) order fault
+        → StopsRun children root order fault
     stops_fault (run_fault.TooMany items) cause = record {
       many = subst (λ roots. IsTooMany children roots order.params.limit items) roots_same cause;
       last_batch = subst (λ d. PassesByBatch d order.params items) (sym threads) tt;
     }
     stops_fault run_fault.NoMemory cause = tt
 
-    -- the same of a run that may have ended early
-    pub stops_threads : {R : Type 0} (r : Result R RunFault)
-        → IfErr r (HasCause children (join_to order.params.places lists) order.params.limit)
-        → IfErr r (StopsRun children (at_first root) order)
-    stops_threads (Ok report) cause = tt
-    stops_threads (Err fault) cause = stops_fault fault cause
-
     -- the same places were awake at the start
     awake_same : (c : Cube)
-        → all_awake (setup_for c order.params lists) ≡ all_awake (setup_for c order.params (at_first root))
+        → all_awake (setup_for c order.params lists)
+        ≡ all_awake (setup_for c order.params (roots_of children order root))
     awake_same c =
-        map_same (λ p. has_items (lists p)) (λ p. has_items (at_first root p))
+        map_same (λ p. has_items (lists p)) (λ p. has_items (roots_of children order root p))
         (λ p. ap has_items (lists_are p)) (range_with_len 0 c.places)
 
     module _ (items : ℕ) (answer : V) (counters : List Counters)
         (r : IsThreadsReport children value combine unit order.params lists items answer counters)
       where
-        -- the report is that of the root at the first place
-        report_first :
-            IsThreadsReport children value combine unit order.params (at_first root) items answer
-            counters
+        -- the report is that of the order's roots
+        report_first : IsThreadsReport children value combine unit order.params
+            (roots_of children order root) items answer counters
         unfolding has_line
         report_first = record {
           cube = r.cube;
@@ -96,12 +94,15 @@ module _ {I V : Type 0} (children : I → List I) (value : I → V) (combine : V
             line_asks = r.report.line_asks;
           };
           small = r.small;
+          starts = starts_by_roots r.cube order.params (roots_of children order root)
+              (roots_of children order root) r.graph.places (λ p low. IsPermutation-refl _);
         }
 
-    -- what a run of such lists reports is told of the root at the first place, by the fabric
+    -- what a run of such lists reports is told of the order's roots, by the fabric
     played_first : (items : ℕ) (answer : V) (counters : List Counters) (f : FabricKind)
         → IsPlayed f children value combine unit order.params lists items answer counters
-        → IsPlayed f children value combine unit order.params (at_first root) items answer counters
+        → IsPlayed f children value combine unit order.params (roots_of children order root) items
+        answer counters
     played_first items answer counters fabric.Inbox r = report_first items answer counters r
     played_first items answer counters fabric.Cells r = record {
       cube = r.cube;
@@ -113,21 +114,29 @@ module _ {I V : Type 0} (children : I → List I) (value : I → V) (combine : V
     }
 
     -- the run of such lists on threads is that of the order
-    pub threads_answer : (items : ℕ) (answer : V) (counters : List Counters)
+    pub threads_answer : (items : ℕ) (answer : V) (counters : List Counters) (roots : List ℕ)
         → IsPlayed order.fabric children value combine unit order.params lists items answer counters
+        → roots ≡ numbers_of order.params.places (roots_of children order root)
         → order.params.places ≤ 64
-        → IsAnswer children value combine unit root order items answer counters
-    threads_answer items answer counters r few =
+        → IsAnswer children value combine unit root order items answer counters roots
+    threads_answer items answer counters roots r roots_are few =
         let first = played_first items answer counters order.fabric r in
         let told = every_report order.fabric first in
         record {
           run = record {
             outcome = told.report.outcome;
             counted = subst
-                (λ d. AreCounters children value combine unit (at_first root) order.params d
-                order.fabric items answer counters)
+                (λ d. AreCounters children value combine unit (roots_of children order root)
+                order.params d order.fabric items answer counters)
                 (sym threads) first;
           };
+          roots_are = subst
+              (λ d. roots ≡ numbers_by d order.params.places (roots_of children order root))
+              (sym threads) roots_are;
+          many = ap length roots_are
+              ∙ length-map-range_with_len (λ p. length (roots_of children order root p)) 0
+              order.params.places
+              ∙ sym told.report.many;
           few = omega (arith, few, told.report.many);
           units = told.report.small;
         }

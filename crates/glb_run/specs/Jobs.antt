@@ -1,7 +1,6 @@
 -- The trees of each job, and its report.
 use Rattle.std.specs.Prelude.{◌≡◌, ◌⊎◌, ℕ, true, List, [], ◌++◌, length}
 use Rattle.glb_laws.specs.Bounded.{sat_sum, capped_sum}
-use Rattle.glb_laws.specs.Tree.{IsSmall}
 use Rattle.glb_laws.specs.declared.sat_sum.SatSum.{SatSum}
 use Rattle.glb_words.specs.Rules.{Text}
 use Rattle.glb_words.specs.declared.settings.Job.{Job}
@@ -18,7 +17,7 @@ use Rattle.glb_graph.specs.declared.dist.Spot.TheVariants.{Root}
 use Rattle.glb_run.specs.declared.order.Order.{Order}
 use Rattle.glb_laws.specs.Tallies.{no_tallies, join_tallies}
 use Rattle.glb_run.specs.Reports.{queens_text, uts_text, dist_text, trial_line}
-use Rattle.glb_run.specs.Runs.{IsTreeReport, IsTooLarge, at_first, all_roots}
+use Rattle.glb_run.specs.Runs.{IsTreeReport, IsTooLarge, IsWithin}
 use Rattle.glb_run.specs.Trials.{trial_graph}
 
 -- sums that stop at the last value of 64 bits
@@ -31,8 +30,8 @@ add_sums a b = sat_sum (capped_sum a.0 b.0)
 -- placements of n queens: the tree of the board without queens
 abbrev pub IsQueensReport : ℕ → Order → Text → Type 0
 IsQueensReport n order text =
-    IsTreeReport (boards_below n) (value_of n) add_sums no_sum (at_first []) order
-    (queens_text n) text
+    IsTreeReport (boards_below n) (value_of n) add_sums no_sum [] order
+    (queens_text n order.spread) text
 
 -- a binomial tree
 abbrev pub tree_of : ℕ → ℕ → ℕ → ℕ → Uts
@@ -46,13 +45,13 @@ root_of seed = record { descriptor = root_descriptor seed; depth = 0; root = tru
 abbrev pub IsUtsReport : Uts → Order → Text → Type 0
 IsUtsReport tree order text =
     IsTreeReport (binomial.children tree) (binomial.value_of tree) join_tallies no_tallies
-    (at_first (root_of tree.seed)) order (uts_text tree.b0 tree.m tree.q tree.seed) text
+    (root_of tree.seed) order (uts_text tree.b0 tree.m tree.q tree.seed order.spread) text
 
 -- the distances of a graph
 abbrev pub IsDistReport : List (List ℕ) → Order → Text → Type 0
 IsDistReport rows order text =
-    IsTreeReport (spot_children rows) (spot_value rows) join_tallies no_tallies (at_first Root)
-    order (dist_text (length rows) (edges_of rows)) text
+    IsTreeReport (spot_children rows) (spot_value rows) join_tallies no_tallies Root
+    order (dist_text (length rows) (edges_of rows) order.spread) text
 
 -- the tree of a trial
 abbrev pub trial_tree : ℕ → Uts
@@ -78,38 +77,36 @@ IsReportOf (job.Trial k) order input text = IsTrialReport k order text
 abbrev pub IsReport : Order → List ℕ → Text → Type 0
 IsReport order = IsReportOf order.job order
 
--- a tree of the job has more nodes than the order's limit, and so many were expanded
+-- the trees of a run of the job have more nodes than the order's limit, and so many were expanded
 abbrev pub HasTooManyOf : Job → Order → List ℕ → ℕ → Type 0
 HasTooManyOf (job.Queens n) order input items =
-    IsTooLarge (boards_below n) (at_first []) order items
+    IsTooLarge (boards_below n) [] order items
 HasTooManyOf (job.Uts b0 m q seed) order input items =
-    IsTooLarge (binomial.children (tree_of b0 m q seed)) (at_first (root_of seed)) order items
+    IsTooLarge (binomial.children (tree_of b0 m q seed)) (root_of seed) order items
 HasTooManyOf job.Dist order input items =
     (rows : List (List ℕ)) × IsTextOf input rows
-    × IsTooLarge (spot_children rows) (at_first Root) order items
+    × IsTooLarge (spot_children rows) Root order items
 HasTooManyOf (job.Trial k) order input items =
-    IsTooLarge (binomial.children (trial_tree k)) (at_first (root_of k)) order items
-    ⊎ IsTooLarge (spot_children (trial_graph k)) (at_first Root) order items
+    IsTooLarge (binomial.children (trial_tree k)) (root_of k) order items
+    ⊎ IsTooLarge (spot_children (trial_graph k)) Root order items
 
 -- the same of the order's job
 abbrev pub HasTooMany : Order → List ℕ → ℕ → Type 0
 HasTooMany order = HasTooManyOf order.job order
 
--- the input is one that the job takes, and each tree of the job has no more nodes than the order's
--- limit
+-- the input is one that the job takes, and the trees of each run of the job have no more nodes than
+-- the order's limit
 abbrev pub IsWithinLimitOf : Job → Order → List ℕ → Type 0
 IsWithinLimitOf (job.Queens n) order input =
-    IsSmall (boards_below n) (all_roots order (at_first [])) order.params.limit
+    IsWithin (boards_below n) order []
 IsWithinLimitOf (job.Uts b0 m q seed) order input =
-    IsSmall (binomial.children (tree_of b0 m q seed)) (all_roots order (at_first (root_of seed)))
-    order.params.limit
+    IsWithin (binomial.children (tree_of b0 m q seed)) order (root_of seed)
 IsWithinLimitOf job.Dist order input =
     (rows : List (List ℕ)) × IsTextOf input rows
-    × IsSmall (spot_children rows) (all_roots order (at_first Root)) order.params.limit
+    × IsWithin (spot_children rows) order Root
 IsWithinLimitOf (job.Trial k) order input =
-    IsSmall (binomial.children (trial_tree k)) (all_roots order (at_first (root_of k)))
-    order.params.limit
-    × IsSmall (spot_children (trial_graph k)) (all_roots order (at_first Root)) order.params.limit
+    IsWithin (binomial.children (trial_tree k)) order (root_of k)
+    × IsWithin (spot_children (trial_graph k)) order Root
 
 -- the same of the order's job
 abbrev pub IsWithinLimit : Order → List ℕ → Type 0

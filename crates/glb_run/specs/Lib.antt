@@ -2,6 +2,7 @@ pub mod Codes
 pub mod Orders
 pub mod FaultText
 pub mod Reports
+pub mod Roots
 pub mod ThreadedRuns
 pub mod Runs
 pub mod Trials

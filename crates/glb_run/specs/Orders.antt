@@ -23,6 +23,7 @@ order_of s = record {
   driver = s.driver;
   fabric = s.fabric;
   stats = s.stats;
+  spread = s.spread;
 }
 
 abbrev pub order_or_fault : Result Settings WordFault → Result Order WordFault

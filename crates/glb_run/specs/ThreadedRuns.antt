@@ -1,13 +1,15 @@
 -- What a run on threads reports.
 use Rattle.std.specs.Prelude.{ℕ, ◌^◌, ◌<◌, List, All, IsPermutation}
-use Rattle.glb_stats.specs.Balances.{HasSmallUnits}
+use Rattle.glb_stats.specs.Balances.{HasSmallUnits, StartsByRoots}
 use Rattle.glb_stats.specs.declared.counters.Counters.{Counters}
 use Rattle.glb_cube.specs.Lines.{Cube}
 use Rattle.glb_rules.specs.declared.params.Params.{Params}
+use Rattle.glb_core.specs.Counters.{all_awake}
 use Rattle.glb_core.specs.Lifelines.{IsGraphOf, setup_for}
 use Rattle.glb_core.specs.Reports.{EndsHistory, IsPlacesReport}
 use Rattle.glb_words.specs.declared.settings.FabricKind.{FabricKind}
 use Rattle.glb_words.specs.declared.settings.FabricKind.TheVariants as fabric
+use Rattle.glb_run.specs.Roots.{numbers_of}
 
 -- the counters of a place are far from the last values of their types
 pub record HasSmallCounters (c : Counters) : Type 0 where
@@ -34,6 +36,8 @@ pub record IsThreadsReport {I V : Type 0} (children : I → List I) (value : I �
   pub report : IsPlacesReport children value combine unit q roots (setup_for cube q roots)
       items answer counters
   pub small : All HasSmallCounters counters
+  -- each place was awake at the start exactly where it had roots
+  pub starts : StartsByRoots (all_awake (setup_for cube q roots)) (numbers_of q.places roots)
 
 -- what a run over cells reports: what every run on threads reports, as it stands at the end of a
 -- history that begins with the bags

@@ -17,6 +17,7 @@ pub struct Order {
     pub driver: Driver,
     pub fabric: FabricKind,
     pub stats: bool,
+    pub spread: bool,
 }
 
 fn order_of(settings: Settings) -> Order
@@ -37,6 +38,7 @@ fn order_of(settings: Settings) -> Order
         driver: settings.driver,
         fabric: settings.fabric,
         stats: settings.stats,
+        spread: settings.spread,
     }
 }
 

@@ -10,11 +10,11 @@ ghost use Rattle.glb_run.specs.Jobs.{IsQueensReport, IsUtsReport, IsDistReport};
 ghost use Rattle.glb_run.specs.Jobs.{no_sum, add_sums, tree_of, root_of};
 ghost use Rattle.glb_run.specs.inner.Answers.{IsAnswer};
 
+use super::drivers::Answer;
 use super::order::Order;
 use super::report_text::{dist_lines, queens_lines, trial_line, uts_lines, with_counters};
 use glb_graph::Graph;
 use glb_laws::{SatSum, Tallies};
-use glb_stats::Report;
 use glb_tree::RunFault;
 use std::alloc::Global;
 
@@ -22,48 +22,66 @@ pub(crate) fn queens_bytes(
     alloc: Global,
     n: u32,
     order: &Order,
-    run: Report<SatSum>,
+    run: Answer<SatSum>,
 ) -> Result<Vec<u8>, RunFault>
     requires { IsAnswer (boards_below n) (board_value n) add_sums no_sum [] order.now
-        run.items run.value run.counters.items }
+        run.report.items run.report.value run.report.counters.items run.roots.items }
     ensures report { IfOk result (λ bytes. IsQueensReport n order.now bytes.items) }
     ensures fault { IfErr result (λ e. e ≡ RunFault.NoMemory) }
 {
-    let lines = queens_lines(alloc, n, run.items, run.value);
-    with_counters(lines, order.stats, &run.counters)
+    let report = &run.report;
+    let roots = run.roots.as_slice();
+    let counters = report.counters.as_slice();
+    let lines = queens_lines(alloc, n, order.spread, roots, report.items, report.value);
+    with_counters(lines, order, roots, counters)
 }
 
 pub(crate) fn uts_bytes(
     alloc: Global,
     numbers: (u32, u32, u32, u32),
     order: &Order,
-    run: Report<Tallies>,
+    run: Answer<Tallies>,
 ) -> Result<Vec<u8>, RunFault>
     requires { let tree = tree_of numbers.0 numbers.1 numbers.2 numbers.3 in
         IsAnswer (node_children tree) (node_value tree) join_tallies no_tallies
-        (root_of numbers.3) order.now run.items run.value run.counters.items }
+        (root_of numbers.3) order.now run.report.items run.report.value
+        run.report.counters.items run.roots.items }
     ensures report { IfOk result (λ bytes.
         IsUtsReport (tree_of numbers.0 numbers.1 numbers.2 numbers.3) order.now bytes.items) }
     ensures fault { IfErr result (λ e. e ≡ RunFault.NoMemory) }
 {
-    let lines = uts_lines(alloc, numbers, run.items, run.value);
-    with_counters(lines, order.stats, &run.counters)
+    let report = &run.report;
+    let roots = run.roots.as_slice();
+    let counters = report.counters.as_slice();
+    let lines = uts_lines(
+        alloc,
+        numbers,
+        order.spread,
+        roots,
+        report.items,
+        report.value,
+    );
+    with_counters(lines, order, roots, counters)
 }
 
 pub(crate) fn dist_bytes(
     alloc: Global,
     graph: &Graph,
     order: &Order,
-    run: Report<Tallies>,
+    run: Answer<Tallies>,
 ) -> Result<Vec<u8>, RunFault>
     requires { IsAnswer (spot_children graph.now) (spot_value graph.now) join_tallies no_tallies
-        Root order.now run.items run.value run.counters.items }
+        Root order.now run.report.items run.report.value run.report.counters.items
+        run.roots.items }
     ensures report { IfOk result (λ bytes. IsDistReport graph.now order.now bytes.items) }
     ensures fault { IfErr result (λ e. e ≡ RunFault.NoMemory) }
 {
     let size = (graph.vertices(), graph.edges());
-    let lines = dist_lines(alloc, size, run.items, run.value);
-    with_counters(lines, order.stats, &run.counters)
+    let report = &run.report;
+    let roots = run.roots.as_slice();
+    let counters = report.counters.as_slice();
+    let lines = dist_lines(alloc, size, order.spread, roots, report.items, report.value);
+    with_counters(lines, order, roots, counters)
 }
 
 /// The line of a trial, and the reports of its tree and its graph behind it.

@@ -5,6 +5,7 @@ mod refusals;
 mod refused;
 mod reports;
 mod script;
+mod spread;
 mod streams;
 mod threads;
 mod top_threads;

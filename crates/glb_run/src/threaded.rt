@@ -6,7 +6,6 @@ ghost use Rattle.glb_queens.specs.Boards.{boards_below};
 ghost use Rattle.glb_uts.specs.Binomial.{children as node_children};
 ghost use Rattle.glb_words.specs.declared.settings.Driver.TheVariants as driver;
 ghost use Rattle.glb_run.specs.Orders.{OrderFits};
-ghost use Rattle.glb_run.specs.Runs.{at_first};
 ghost use Rattle.glb_run.specs.Jobs.{IsQueensReport, IsUtsReport, IsDistReport, IsTrialReport};
 ghost use Rattle.glb_run.specs.Jobs.{tree_of, root_of};
 ghost use Rattle.glb_run.specs.inner.Stops.{StopsRun};
@@ -40,7 +39,7 @@ fn queens_in_threads<'a, R: Threads + Wait + Sync, G: Gate + Sync>(
     requires order { OrderFits order.now }
     requires driver { order.now.driver ≡ driver.Threads }
     ensures report { IfOk result (λ bytes. IsQueensReport n order.now bytes.items) }
-    ensures stops { IfErr result (StopsRun (boards_below n) (at_first []) order.now) }
+    ensures stops { IfErr result (StopsRun (boards_below n) [] order.now) }
 {
     let queens = Queens::new(n);
     let root = queens.root();
@@ -66,7 +65,7 @@ fn uts_in_threads<'a, R: Threads + Wait + Sync, G: Gate + Sync>(
         IsUtsReport (tree_of numbers.0 numbers.1 numbers.2 numbers.3) order.now bytes.items) }
     ensures stops { IfErr result (StopsRun
         (node_children (tree_of numbers.0 numbers.1 numbers.2 numbers.3))
-        (at_first (root_of numbers.3)) order.now) }
+        (root_of numbers.3) order.now) }
 {
     let (b0, m, q, seed) = numbers;
     let tree = Uts::new(b0, m, q, seed);
@@ -88,8 +87,9 @@ fn dist_in_threads<'a, R: Threads + Wait + Sync, G: Gate + Sync>(
     requires order { OrderFits order.now }
     requires driver { order.now.driver ≡ driver.Threads }
     ensures report { IfOk result (λ bytes. IsDistReport graph.now order.now bytes.items) }
-    ensures stops { IfErr result (StopsRun (spot_children graph.now) (at_first Root) order.now) }
+    ensures stops { IfErr result (StopsRun (spot_children graph.now) Root order.now) }
 {
+    graph.known();
     let distances = Dist::new(graph);
     let root = distances.root();
     let gated = Gated::new(distances, gate);

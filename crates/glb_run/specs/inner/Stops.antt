@@ -25,9 +25,9 @@ StopsReading stop.TooLong source = ReadsTooMuch source
 StopsReading stop.NoMemory source = (input : List ℕ) × Reads input source
 
 -- the run of trees ended early since they are too large, or for want of memory
-abbrev pub StopsRun : {X : Type 0} → (X → List X) → (ℕ → List X) → Order → RunFault → Type 0
-StopsRun children roots order (run_fault.TooMany items) = IsTooLarge children roots order items
-StopsRun children roots order run_fault.NoMemory = Unit {0}
+abbrev pub StopsRun : {X : Type 0} → (X → List X) → X → Order → RunFault → Type 0
+StopsRun children root order (run_fault.TooMany items) = IsTooLarge children root order items
+StopsRun children root order run_fault.NoMemory = Unit {0}
 
 -- the status of a run that ended early
 abbrev pub status_of : RunFault → Status

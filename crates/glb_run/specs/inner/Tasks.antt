@@ -14,7 +14,6 @@ use Rattle.glb_run.specs.declared.job.Task.{Task}
 use Rattle.glb_run.specs.declared.job.Task.TheVariants as task
 use Rattle.glb_run.specs.declared.order.Order.{Order}
 use Rattle.glb_run.specs.declared.status.Status.{Status}
-use Rattle.glb_run.specs.Runs.{at_first}
 use Rattle.glb_run.specs.Trials.{trial_graph}
 use Rattle.glb_run.specs.Jobs.{IsQueensReport, IsUtsReport, IsDistReport, IsTrialReport}
 use Rattle.glb_run.specs.Jobs.{tree_of, root_of, trial_tree}
@@ -56,13 +55,13 @@ IsTaskReport (task.Trial k) order text = IsTrialReport k order text
 -- the run of a trial ended early, in its tree or in its graph
 abbrev pub StopsTrial : ℕ → Order → RunFault → Type 0
 StopsTrial k order fault =
-    StopsRun (binomial.children (trial_tree k)) (at_first (root_of k)) order fault
-    ⊎ StopsRun (spot_children (trial_graph k)) (at_first Root) order fault
+    StopsRun (binomial.children (trial_tree k)) (root_of k) order fault
+    ⊎ StopsRun (spot_children (trial_graph k)) Root order fault
 
 -- the run of the task ended early
 abbrev pub StopsTask : Task → Order → RunFault → Type 0
-StopsTask (task.Queens n) order fault = StopsRun (boards_below n) (at_first []) order fault
+StopsTask (task.Queens n) order fault = StopsRun (boards_below n) [] order fault
 StopsTask (task.Uts b0 m q seed) order fault =
-    StopsRun (binomial.children (tree_of b0 m q seed)) (at_first (root_of seed)) order fault
-StopsTask (task.Dist rows) order fault = StopsRun (spot_children rows) (at_first Root) order fault
+    StopsRun (binomial.children (tree_of b0 m q seed)) (root_of seed) order fault
+StopsTask (task.Dist rows) order fault = StopsRun (spot_children rows) Root order fault
 StopsTask (task.Trial k) order fault = StopsTrial k order fault

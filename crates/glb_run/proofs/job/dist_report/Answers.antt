@@ -11,6 +11,6 @@ dist_bytes-requires g c =
     let run = c.in_ok-outcome.outcome in
     let Answers : List (List ℕ) → Spot → Type 0 = λ rows root.
     IsAnswer (spot_children rows) (spot_value rows) join_tallies no_tallies root c.args.order.now
-    run.items run.value run.counters.items in
+    run.report.items run.report.value run.report.counters.items run.roots.items in
     subst (λ rows. Answers rows Root) c.new-distances.ensures
     (subst (Answers c.new-distances.result.graph.now) c.root.ensures c.in_ok-outcome.ensures.run)

@@ -8,7 +8,7 @@ pub queens_bytes-requires : goal.queens_bytes-requires
 queens_bytes-requires g c =
     let run = c.in_ok-outcome.outcome in
     let Answers : ℕ → List ℕ → Type 0 = λ n root.
-    IsAnswer (boards_below n) (value_of n) add_sums no_sum root c.args.order.now run.items run.value
-    run.counters.items in
+    IsAnswer (boards_below n) (value_of n) add_sums no_sum root c.args.order.now run.report.items
+    run.report.value run.report.counters.items run.roots.items in
     subst (λ n. Answers n []) c.new-queens.ensures
     (subst (Answers c.new-queens.result) c.root.ensures.root c.in_ok-outcome.ensures.run)

@@ -21,7 +21,7 @@ uts_bytes-requires g c =
     (c.root.ensures.descriptor ∙ ap root_descriptor made.seed) c.root.ensures.depth
     c.root.ensures.root in
     let Answers : Uts → Node → Type 0 = λ t u.
-    IsAnswer (children t) (value_of t) join_tallies no_tallies u c.args.order.now run.items
-    run.value run.counters.items in
+    IsAnswer (children t) (value_of t) join_tallies no_tallies u c.args.order.now run.report.items
+    run.report.value run.report.counters.items run.roots.items in
     subst (λ t. Answers t (root_of n.3)) tree
     (subst (Answers c.new-tree.result) root c.in_ok-outcome.ensures.run)

@@ -1,4 +1,4 @@
-use Rattle.std.proofs.Common.{◌≡◌, ◌++◌, length, string_bytes, ap, ◌∙◌}
+use Rattle.std.proofs.Common.{◌≡◌, ◌++◌, ap, ◌∙◌, ℕ, List, length}
 use Rattle.std.proofs.lemmas.Result.{IfOk-weaker}
 use Rattle.glb_graph.specs.Rows.{edges_of}
 use Rattle.glb_run.specs.Reports.{dist_text, counters_text}
@@ -7,12 +7,17 @@ use Rattle.glb_run.proofs.report_bytes.dist_bytes.Goals as goal
 pub returns-clause-report : goal.returns-clause-report
 returns-clause-report c =
     let order = c.args.order.now in
+    let run = c.args.run.report in
     let rows = c.args.graph.now in
-    let run = c.args.run in
-    let text = dist_text (length rows) (edges_of rows) run.items run.value in
-    let size : dist_text c.vertices.result c.edges.result run.items run.value ≡ text =
-    ap (λ v. dist_text v c.edges.result run.items run.value) c.vertices.ensures
-    ∙ ap (λ e. dist_text (length rows) e run.items run.value) c.edges.ensures in
+    let text : List ℕ → List ℕ = λ r.
+    dist_text (length rows) (edges_of rows) order.spread r run.items run.value in
+    let r = c.as_slice-roots.result.now in
+    let size : dist_text c.vertices.result c.edges.result order.spread r run.items run.value
+    ≡ text r =
+    ap (λ v. dist_text v c.edges.result order.spread r run.items run.value) c.vertices.ensures
+    ∙ ap (λ e. dist_text (length rows) e order.spread r run.items run.value) c.edges.ensures in
+    let given = c.as_slice-roots in
+    let told = c.as_slice-counters in
     IfOk-weaker c.with_counters.result _ _
     (λ bytes whole.
     record {
@@ -20,10 +25,14 @@ returns-clause-report c =
       answer = run.value;
       counters = run.counters.items;
       run = c.requires.run;
-      whole = whole ∙ ap (λ counters. text ++ counters_text order.stats counters)
-          c.deref.ensures.value;
+      roots = c.args.run.roots.items;
+      roots_are = c.requires.roots_are;
+      whole = whole
+          ∙ ap (λ r. text r ++ counters_text order.stats order.spread r told.result.now)
+          given.ensures.value
+          ∙ ap (λ k. text c.args.run.roots.items
+          ++ counters_text order.stats order.spread c.args.run.roots.items k)
+          told.ensures.value;
     })
-    (c.with_counters.ensures.bytes text
-    (IfOk-weaker c.dist_lines-lines.result
-    (λ lines. string_bytes lines ≡ dist_text c.vertices.result c.edges.result run.items run.value)
-    (λ lines. string_bytes lines ≡ text) (λ lines is. is ∙ size) c.dist_lines-lines.ensures))
+    (c.with_counters.ensures.bytes (text given.result.now)
+    (IfOk-weaker c.dist_lines-lines.result _ _ (λ lines is. is ∙ size) c.dist_lines-lines.ensures))

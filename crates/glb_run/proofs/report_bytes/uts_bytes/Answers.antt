@@ -1,4 +1,4 @@
-use Rattle.std.proofs.Common.{◌++◌, ap, ◌∙◌}
+use Rattle.std.proofs.Common.{◌≡◌, ◌++◌, ap, ◌∙◌, ℕ, List}
 use Rattle.std.proofs.lemmas.Result.{IfOk-weaker}
 use Rattle.glb_run.specs.Reports.{uts_text, counters_text}
 use Rattle.glb_run.proofs.report_bytes.uts_bytes.Goals as goal
@@ -6,9 +6,12 @@ use Rattle.glb_run.proofs.report_bytes.uts_bytes.Goals as goal
 pub returns-clause-report : goal.returns-clause-report
 returns-clause-report c =
     let order = c.args.order.now in
-    let run = c.args.run in
+    let run = c.args.run.report in
     let n = c.args.numbers in
-    let text = uts_text n.0 n.1 n.2 n.3 run.items run.value in
+    let text : List ℕ → List ℕ = λ r.
+    uts_text n.0 n.1 n.2 n.3 order.spread r run.items run.value in
+    let given = c.as_slice-roots in
+    let told = c.as_slice-counters in
     IfOk-weaker c.with_counters.result _ _
     (λ bytes whole.
     record {
@@ -16,7 +19,13 @@ returns-clause-report c =
       answer = run.value;
       counters = run.counters.items;
       run = c.requires.run;
-      whole = whole ∙ ap (λ counters. text ++ counters_text order.stats counters)
-          c.deref.ensures.value;
+      roots = c.args.run.roots.items;
+      roots_are = c.requires.roots_are;
+      whole = whole
+          ∙ ap (λ r. text r ++ counters_text order.stats order.spread r told.result.now)
+          given.ensures.value
+          ∙ ap (λ k. text c.args.run.roots.items
+          ++ counters_text order.stats order.spread c.args.run.roots.items k)
+          told.ensures.value;
     })
-    (c.with_counters.ensures.bytes text c.uts_lines-lines.ensures)
+    (c.with_counters.ensures.bytes (text given.result.now) c.uts_lines-lines.ensures)

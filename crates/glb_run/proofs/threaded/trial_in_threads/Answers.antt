@@ -3,14 +3,13 @@ use Rattle.std.proofs.lemmas.Result.{IfOk-weaker}
 use Rattle.glb_graph.specs.Spots.{spot_children}
 use Rattle.glb_graph.specs.declared.dist.Spot.TheVariants.{Root}
 use Rattle.glb_run.specs.Reports.{trial_line}
-use Rattle.glb_run.specs.Runs.{at_first}
 use Rattle.glb_run.specs.Jobs.{IsDistReport}
 use Rattle.glb_run.specs.inner.Stops.{StopsRun}
 use Rattle.glb_run.proofs.threaded.trial_in_threads.Goals as goal
 
 pub returns-in-Err-dist_in_threads-clause-stops : goal.returns-in-Err-dist_in_threads-clause-stops
 returns-in-Err-dist_in_threads-clause-stops g c =
-    inr (subst (λ rows. StopsRun (spot_children rows) (at_first Root) c.args.order.now
+    inr (subst (λ rows. StopsRun (spot_children rows) Root c.args.order.now
     c.in-Err-dist_in_threads.fault)
     c.in_ok-graph.ensures.graph c.in-Err-dist_in_threads.ensures.stops)
 

@@ -21,7 +21,7 @@ uts_bytes-requires g c =
     (c.root-root.ensures.descriptor ∙ ap root_descriptor made.seed) c.root-root.ensures.depth
     c.root-root.ensures.root in
     let Answers : Uts → Node → Type 0 = λ t u.
-    IsAnswer (children t) (value_of t) join_tallies no_tallies u c.args.order.now run.items
-    run.value run.counters.items in
+    IsAnswer (children t) (value_of t) join_tallies no_tallies u c.args.order.now run.report.items
+    run.report.value run.report.counters.items run.roots.items in
     subst (λ t. Answers t (root_of n.3)) (c.new-gated.ensures ∙ tree)
     (subst (Answers c.new-gated.result) root c.in_ok-outcome.ensures.run)

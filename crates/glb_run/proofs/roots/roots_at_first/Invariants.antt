@@ -1,6 +1,6 @@
 use Rattle.std.proofs.Common.{◌≡◌, ℕ, [], length, map, get_or}
-use Rattle.glb_run.specs.Runs.{at_first}
-use Rattle.glb_run.proofs.drivers.roots_at_first.Given as goal
+use Rattle.glb_run.specs.Roots.{at_first}
+use Rattle.glb_run.proofs.roots.roots_at_first.Given as goal
 
 abbrev pub invariant-loop : goal.invariant-loop
 invariant-loop g l = record {
