@@ -1,10 +1,19 @@
-use Rattle.std.proofs.Common.{ℕ, List, subst}
+use Rattle.std.proofs.Common.{ℕ, ◌≤◌, List, length, sym, subst}
 use Rattle.glb_laws.specs.Tallies.{no_tallies, join_tallies}
 use Rattle.glb_graph.specs.Spots.{spot_children, spot_value}
 use Rattle.glb_graph.specs.declared.dist.Spot.{Spot}
 use Rattle.glb_graph.specs.declared.dist.Spot.TheVariants.{Root}
 use Rattle.glb_run.specs.inner.Answers.{IsAnswer}
+use Rattle.glb_run.proofs.ChildFacts.{few_spots}
 use Rattle.glb_run.proofs.job.dist_report.Goals as goal
+
+pub run_calmly-requires-clause-few : goal.run_calmly-requires-clause-few
+run_calmly-requires-clause-few g c =
+    let rows = c.new-distances.result.graph.now in
+    subst (λ s. length (spot_children rows s) ≤ 100000) (sym c.root.ensures)
+    (few_spots rows
+    (subst (λ (r : List (List ℕ)). length r ≤ 20000) (sym c.new-distances.ensures)
+    c.known.ensures.few_vertices))
 
 pub dist_bytes-requires : goal.dist_bytes-requires
 dist_bytes-requires g c =

@@ -1,8 +1,14 @@
-use Rattle.std.proofs.Common.{ℕ, List, [], subst}
+use Rattle.std.proofs.Common.{ℕ, ◌≤◌, List, [], sym, subst}
 use Rattle.glb_queens.specs.Boards.{boards_below, value_of}
 use Rattle.glb_run.specs.Jobs.{no_sum, add_sums}
 use Rattle.glb_run.specs.inner.Answers.{IsAnswer}
+use Rattle.glb_run.proofs.ChildFacts.{few_boards}
 use Rattle.glb_run.proofs.job.queens_report.Goals as goal
+
+pub run_calmly-requires-clause-few : goal.run_calmly-requires-clause-few
+run_calmly-requires-clause-few g c =
+    few_boards c.new-queens.result c.root.result
+    (subst (λ n. n ≤ 16) (sym c.new-queens.ensures) c.requires.n.1)
 
 pub queens_bytes-requires : goal.queens_bytes-requires
 queens_bytes-requires g c =

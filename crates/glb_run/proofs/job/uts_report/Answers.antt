@@ -1,4 +1,4 @@
-use Rattle.std.proofs.Common.{◌≡◌, ap, subst, ◌∙◌}
+use Rattle.std.proofs.Common.{◌≡◌, ◌≤◌, ap, sym, subst, ◌∙◌}
 use Rattle.glb_laws.specs.Tallies.{no_tallies, join_tallies}
 use Rattle.glb_uts.specs.Binomial.{children, value_of}
 use Rattle.glb_uts.specs.Descriptors.{root_descriptor}
@@ -7,7 +7,13 @@ use Rattle.glb_uts.specs.declared.node.Node.{Node}
 use Rattle.glb_run.specs.Jobs.{tree_of, root_of}
 use Rattle.glb_run.proofs.RunFacts.{tree_same, root_same}
 use Rattle.glb_run.specs.inner.Answers.{IsAnswer}
+use Rattle.glb_run.proofs.ChildFacts.{few_nodes}
 use Rattle.glb_run.proofs.job.uts_report.Goals as goal
+
+pub run_calmly-requires-clause-few : goal.run_calmly-requires-clause-few
+run_calmly-requires-clause-few g c =
+    few_nodes c.new-tree.result c.root.result c.root.ensures.root
+    (subst (λ b. b ≤ 100000) (sym c.new-tree.ensures.b0) c.requires.numbers.0)
 
 pub uts_bytes-requires : goal.uts_bytes-requires
 uts_bytes-requires g c =

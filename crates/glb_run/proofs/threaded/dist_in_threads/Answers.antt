@@ -1,11 +1,21 @@
-use Rattle.std.proofs.Common.{ℕ, List, ap, subst, ◌∙◌}
+use Rattle.std.proofs.Common.{ℕ, ◌≤◌, List, length, ap, sym, subst, ◌∙◌}
 use Rattle.glb_laws.specs.Tallies.{no_tallies, join_tallies}
 use Rattle.glb_graph.specs.Spots.{spot_children, spot_value}
 use Rattle.glb_graph.specs.declared.dist.Dist.{Dist}
 use Rattle.glb_graph.specs.declared.dist.Spot.{Spot}
 use Rattle.glb_graph.specs.declared.dist.Spot.TheVariants.{Root}
 use Rattle.glb_run.specs.inner.Answers.{IsAnswer}
+use Rattle.glb_run.proofs.ChildFacts.{few_spots}
 use Rattle.glb_run.proofs.threaded.dist_in_threads.Goals as goal
+
+pub run_in_threads-requires-clause-few : goal.run_in_threads-requires-clause-few
+run_in_threads-requires-clause-few g c =
+    let rows = c.new-gated.result.graph.now in
+    subst (λ s. length (spot_children rows s) ≤ 100000) (sym c.root-root.ensures)
+    (few_spots rows
+    (subst (λ (r : List (List ℕ)). length r ≤ 20000)
+    (sym (ap (λ (d : Dist). d.graph.now) c.new-gated.ensures ∙ c.new-distances.ensures))
+    c.known.ensures.few_vertices))
 
 pub dist_bytes-requires : goal.dist_bytes-requires
 dist_bytes-requires g c =
