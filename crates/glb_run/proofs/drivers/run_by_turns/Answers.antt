@@ -1,4 +1,4 @@
-use Rattle.std.proofs.Common.{◌+◌, ◌%◌, ◌^◌, ◌∙◌, [], length, map, get_or, ap}
+use Rattle.std.proofs.Common.{◌+◌, ◌%◌, ◌^◌, ◌∙◌, [], length, map, get_or, ap, sym}
 use Rattle.glb_run.specs.Roots.{roots_of}
 use Rattle.glb_run.proofs.RootFacts.{numbers_listed}
 use Rattle.glb_run.proofs.TurnsFacts.{turns_answer, stops_turns}
@@ -15,7 +15,7 @@ returns-in-Ok-clause-run g c =
     (c.in_ok-roots.ensures.numbers ∙ ap (map (λ v. length v.items)) c.deref.ensures.value
     ∙ numbers_listed (λ v. v.items) c.in_ok-lists.lists.items c.args.order.now.params.places
     (roots_of (g.P.Program.children c.args.program.now) c.args.order.now c.args.root)
-    c.in_ok-lists.ensures.many c.in_ok-lists.ensures.lists)
+    (sym c.in_ok-lists.lists.ok.0 ∙ c.in_ok-lists.ensures.many) c.in_ok-lists.ensures.lists)
     c.requires.driver c.requires.order.params.places.1
 
 pub returns-in-Err-clause-stops : goal.returns-in-Err-clause-stops
