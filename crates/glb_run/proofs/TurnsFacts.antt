@@ -138,6 +138,7 @@ module _ {I V : Type 0} (children : I → List I) (value : I → V) (combine : V
       -- the run of such lists by turns is that of the order
       run_first : order.driver ≡ driver.Turns
           → IsRun children value combine unit root order items answer counters
+      unfolding report_first
       run_first turns = record {
         outcome = report_first.report.outcome;
         counted = subst

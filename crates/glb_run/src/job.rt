@@ -40,7 +40,10 @@ fn queens_report<B: Bag<Queens>>(alloc: Global, n: u32, order: &Order) -> Result
     ensures stops { IfErr result (StopsRun (boards_below n) [] order.now) }
 {
     let queens = Queens::new(n);
-    let outcome = run_calmly::<Queens, B>(alloc, &queens, queens.root(), order)?;
+    let outcome = match run_calmly::<Queens, B>(alloc, &queens, queens.root(), order) {
+        Ok(outcome) => outcome,
+        Err(fault) => return Err(fault),
+    };
     queens_bytes(alloc, n, order, outcome)
 }
 
@@ -78,7 +81,10 @@ fn dist_report<'a, B: Bag<Dist<'a>>>(
 {
     graph.known();
     let distances = Dist::new(graph);
-    let outcome = run_calmly::<Dist<'a>, B>(alloc, &distances, distances.root(), order)?;
+    let outcome = match run_calmly::<Dist<'a>, B>(alloc, &distances, distances.root(), order) {
+        Ok(outcome) => outcome,
+        Err(fault) => return Err(fault),
+    };
     dist_bytes(alloc, graph, order, outcome)
 }
 

@@ -44,9 +44,12 @@ fn queens_in_threads<'a, R: Threads + Wait + Sync, G: Gate + Sync>(
     let queens = Queens::new(n);
     let root = queens.root();
     let gated = Gated::new(queens, gate);
-    let outcome = run_in_threads::<R, Gated<'a, Queens, G>, ListBag<Gated<'a, Queens, G>>>(
+    let outcome = match run_in_threads::<R, Gated<'a, Queens, G>, ListBag<Gated<'a, Queens, G>>>(
         rt, alloc, &gated, root, order,
-    )?;
+    ) {
+        Ok(outcome) => outcome,
+        Err(fault) => return Err(fault),
+    };
     queens_bytes(alloc, n, order, outcome)
 }
 
@@ -71,9 +74,12 @@ fn uts_in_threads<'a, R: Threads + Wait + Sync, G: Gate + Sync>(
     let tree = Uts::new(b0, m, q, seed);
     let root = tree.root();
     let gated = Gated::new(tree, gate);
-    let outcome = run_in_threads::<R, Gated<'a, Uts, G>, ListBag<Gated<'a, Uts, G>>>(
+    let outcome = match run_in_threads::<R, Gated<'a, Uts, G>, ListBag<Gated<'a, Uts, G>>>(
         rt, alloc, &gated, root, order,
-    )?;
+    ) {
+        Ok(outcome) => outcome,
+        Err(fault) => return Err(fault),
+    };
     uts_bytes(alloc, numbers, order, outcome)
 }
 
@@ -93,9 +99,15 @@ fn dist_in_threads<'a, R: Threads + Wait + Sync, G: Gate + Sync>(
     let distances = Dist::new(graph);
     let root = distances.root();
     let gated = Gated::new(distances, gate);
-    let outcome = run_in_threads::<R, Gated<'a, Dist<'a>, G>, ListBag<Gated<'a, Dist<'a>, G>>>(
-        rt, alloc, &gated, root, order,
-    )?;
+    let outcome = match run_in_threads::<
+        R,
+        Gated<'a, Dist<'a>, G>,
+        ListBag<Gated<'a, Dist<'a>, G>>,
+    >(rt, alloc, &gated, root, order)
+    {
+        Ok(outcome) => outcome,
+        Err(fault) => return Err(fault),
+    };
     dist_bytes(alloc, graph, order, outcome)
 }
 

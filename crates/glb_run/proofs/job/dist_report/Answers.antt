@@ -5,6 +5,7 @@ use Rattle.glb_graph.specs.declared.dist.Spot.{Spot}
 use Rattle.glb_graph.specs.declared.dist.Spot.TheVariants.{Root}
 use Rattle.glb_run.specs.inner.Answers.{IsAnswer}
 use Rattle.glb_run.proofs.ChildFacts.{few_spots}
+use Rattle.glb_run.specs.inner.Stops.{StopsRun}
 use Rattle.glb_run.proofs.job.dist_report.Goals as goal
 
 pub run_calmly-requires-clause-few : goal.run_calmly-requires-clause-few
@@ -17,9 +18,16 @@ run_calmly-requires-clause-few g c =
 
 pub dist_bytes-requires : goal.dist_bytes-requires
 dist_bytes-requires g c =
-    let run = c.in_ok-outcome.outcome in
+    let run = c.in-Ok.outcome in
     let Answers : List (List ℕ) → Spot → Type 0 = λ rows root.
     IsAnswer (spot_children rows) (spot_value rows) join_tallies no_tallies root c.args.order.now
     run.report.items run.report.value run.report.counters.items run.roots.items in
     subst (λ rows. Answers rows Root) c.new-distances.ensures
-    (subst (Answers c.new-distances.result.graph.now) c.root.ensures c.in_ok-outcome.ensures.run)
+    (subst (Answers c.new-distances.result.graph.now) c.root.ensures c.in-Ok.ensures.run)
+
+pub returns-in-Err-clause-stops : goal.returns-in-Err-clause-stops
+returns-in-Err-clause-stops g c =
+    let Stops : List (List ℕ) → Spot → Type 0 = λ rows root.
+    StopsRun (spot_children rows) root c.args.order.now c.in-Err.fault in
+    subst (λ rows. Stops rows Root) c.new-distances.ensures
+    (subst (Stops c.new-distances.result.graph.now) c.root.ensures c.in-Err.ensures.stops)

@@ -6,10 +6,11 @@ use Rattle.glb_graph.specs.declared.dist.Spot.{Spot}
 use Rattle.glb_graph.specs.declared.dist.Spot.TheVariants.{Root}
 use Rattle.glb_run.specs.inner.Answers.{IsAnswer}
 use Rattle.glb_run.proofs.ChildFacts.{few_spots}
+use Rattle.glb_run.specs.inner.Stops.{StopsRun}
 use Rattle.glb_run.proofs.threaded.dist_in_threads.Goals as goal
 
 pub run_in_threads-requires-clause-few : goal.run_in_threads-requires-clause-few
-run_in_threads-requires-clause-few g c =
+run_in_threads-requires-clause-few g c κs within =
     let rows = c.new-gated.result.graph.now in
     subst (λ s. length (spot_children rows s) ≤ 100000) (sym c.root-root.ensures)
     (few_spots rows
@@ -19,10 +20,18 @@ run_in_threads-requires-clause-few g c =
 
 pub dist_bytes-requires : goal.dist_bytes-requires
 dist_bytes-requires g c =
-    let run = c.in_ok-outcome.outcome in
+    let run = c.in-Ok.outcome in
     let Answers : List (List ℕ) → Spot → Type 0 = λ rows root.
     IsAnswer (spot_children rows) (spot_value rows) join_tallies no_tallies root c.args.order.now
     run.report.items run.report.value run.report.counters.items run.roots.items in
     subst (λ rows. Answers rows Root)
     (ap (λ (d : Dist). d.graph.now) c.new-gated.ensures ∙ c.new-distances.ensures)
-    (subst (Answers c.new-gated.result.graph.now) c.root-root.ensures c.in_ok-outcome.ensures.run)
+    (subst (Answers c.new-gated.result.graph.now) c.root-root.ensures c.in-Ok.ensures.run)
+
+pub returns-in-Err-clause-stops : goal.returns-in-Err-clause-stops
+returns-in-Err-clause-stops g c =
+    let Stops : List (List ℕ) → Spot → Type 0 = λ rows root.
+    StopsRun (spot_children rows) root c.args.order.now c.in-Err.fault in
+    subst (λ rows. Stops rows Root)
+    (ap (λ (d : Dist). d.graph.now) c.new-gated.ensures ∙ c.new-distances.ensures)
+    (subst (Stops c.new-gated.result.graph.now) c.root-root.ensures c.in-Err.ensures.stops)
