@@ -1,0 +1,4 @@
+pub mod Tops
+pub mod Counting
+pub mod SumsOfTrees
+pub mod Starts

@@ -1,0 +1,3 @@
+pub mod SubsetSums
+pub mod GreatestFirst
+pub mod inner
