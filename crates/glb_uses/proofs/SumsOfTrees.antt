@@ -1,12 +1,12 @@
 -- The answer of a tree of undecided weights is how many choices add up to the target.
-use Rattle.std.proofs.Common.{◌≡◌, ℕ, zero, suc, ◌+◌, ◌-◌, ◌<◌, ◌≤◌, ◌^◌, List, [], ◌∷◌, ◌++◌}
-use Rattle.std.proofs.Common.{refl, sym, ap, subst, ◌∙◌, arith, Bool, true, false, length}
+use Rattle.std.proofs.Common.{◌≡◌, ℕ, zero, suc, ◌+◌, ◌-◌, ◌<◌, ◌^◌, List, [], ◌∷◌, ◌++◌}
+use Rattle.std.proofs.Common.{refl, sym, ap, ◌∙◌, arith, Bool, true, false, length}
 use Rattle.std.proofs.Common.{append_assoc, append-nil, length-append}
 use Rattle.std.specs.Prelude.{◌==◌, nat_lt, cond, min, slice_index}
 use Rattle.std.proofs.lemmas.Bool.{lt-ltb, le-ltb}
 use Rattle.glb_laws.specs.Bounded.{capped_sum, sat_sum, sat_sum_laws}
 use Rattle.glb_laws.specs.Expansion.{combined}
-use Rattle.glb_laws.specs.Tree.{tree, forest, IsSmall, nodes, answer}
+use Rattle.glb_laws.specs.Tree.{tree, forest}
 use Rattle.glb_laws.specs.declared.sat_sum.SatSum.{SatSum}
 use Rattle.glb_laws.proofs.Shuffles.{combined_proper, combined_after}
 use Rattle.glb_laws.proofs.Expansions.{combined-append}
