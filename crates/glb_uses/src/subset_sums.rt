@@ -1,5 +1,4 @@
 //! A program of its own: how many choices of some weights add up to a target.
-ghost use Rattle.std.specs.Prelude.{◌≡◌};
 ghost use Rattle.glb_uses.specs.SubsetSums.{CountsSums};
 
 use glb_laws::{NoMemory, Program, SatSum};
@@ -18,11 +17,9 @@ pub struct SubsetSums {
 }
 
 impl SubsetSums {
-    /// Nothing is decided, and the target is missing. The answer of its tree is how many choices of
-    /// the weights add up to the target.
+    /// Nothing is decided. The answer of its tree is how many choices add up to the target.
     pub fn root(&self, target: u64) -> Undecided
-        ensures root { result ≡ record { next = 0; missing = target } }
-        ensures answer { CountsSums self.now.weights.items result target }
+        ensures { CountsSums self.now.weights.items result target }
     {
         Undecided {
             next: 0,
@@ -49,17 +46,13 @@ impl Program for SubsetSums {
         if next >= self.weights.len() {
             return Ok(SatSum((missing == 0) as u64));
         }
-        out.reserve(2)?;
-        out.push_reserved(Undecided {
-            next: next + 1,
-            missing,
-        });
         let weight = self.weights[next];
+        let next = next + 1;
+        out.reserve(2)?;
+        out.push_reserved(Undecided { next, missing });
         if weight <= missing {
-            out.push_reserved(Undecided {
-                next: next + 1,
-                missing: missing - weight,
-            });
+            let missing = missing - weight;
+            out.push_reserved(Undecided { next, missing });
         }
         Ok(SatSum(0))
     }

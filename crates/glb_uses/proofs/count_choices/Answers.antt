@@ -5,5 +5,5 @@ use Rattle.glb_uses.proofs.count_choices.Goals as goal
 pub returns : goal.returns
 returns g c =
     IfOk-weaker c.on_threads.result _ _
-    (λ report told. told.value_is ∙ c.root-root.ensures.answer _ told.small)
+    (λ report told. told.value_is ∙ c.root-root.ensures _ told.small)
     c.on_threads.ensures.ok
