@@ -1,6 +1,7 @@
 mod bags;
 mod listed;
 mod places;
+mod ranges;
 mod refusals;
 mod refused;
 mod reports;
