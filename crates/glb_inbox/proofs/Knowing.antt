@@ -1,5 +1,6 @@
 -- How the edges that a place knows, and sums over them, change where it learns the state of one.
-use Rattle.std.proofs.Common.{◌≡◌, ◌≢◌, ℕ, ◌+◌, ◌<◌, ◌⊎◌, Bool, true, false, ◌&&◌, ◌==◌, List, ◌∷◌, refl, sym, ap, inl, inr, ⊎_elim, ◌∙◌}
+use Rattle.std.proofs.Common.{◌≡◌, ◌≢◌, ℕ, ◌+◌, ◌<◌, ◌⊎◌, Bool, true, false, ◌&&◌, ◌==◌, List, ◌∷◌}
+use Rattle.std.proofs.Common.{refl, sym, ap, inl, inr, ⊎_elim, ◌∙◌}
 use Rattle.glb_laws.specs.Sums.{sum_to}
 use Rattle.glb_rules.specs.World.{same_kind}
 use Rattle.glb_rules.specs.Events.{name_of}
@@ -21,7 +22,8 @@ module _ (xs : List KnownEdge) (k : Kind) (t v : ℕ) (x : Edge) where
   pub hit : known_at more k t v ≡ x
   hit = rw (same_kind_true k k refl, eq_self t, eq_self v) refl
 
-  pub miss : (i : Kind) (u w : ℕ) → (i ≢ k) ⊎ (u ≢ t) ⊎ (w ≢ v) → known_at more i u w ≡ known_at xs i u w
+  pub miss : (i : Kind) (u w : ℕ) → (i ≢ k) ⊎ (u ≢ t) ⊎ (w ≢ v) → known_at more i u w
+      ≡ known_at xs i u w
   miss i u w d =
       ⊎_elim (λ n. rw (same_kind_false k i (λ e. n (sym e))) refl)
       (λ d. ⊎_elim

@@ -21,6 +21,7 @@ pub mod LaneLemmas
 pub mod BookLemmas
 pub mod Balancing
 pub mod DeskLemmas
+pub mod Hearing
 pub mod WayLemmas
 pub mod FirstBooks
 pub mod GatheredDesks

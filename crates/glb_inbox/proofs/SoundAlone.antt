@@ -1,5 +1,7 @@
 -- Events that change a place and none of its edges keep what its record keeps by itself.
-use Rattle.std.proofs.Common.{◌≡◌, ◌≢◌, ℕ, ◌+◌, ◌*◌, ◌<◌, ◌≤◌, ◌⊎◌, Bool, true, false, cond, List, [], ◌∷◌, length, max, refl, inl, inr, ⊎_elim, arith, length-append, ◌∙◌}
+use Rattle.std.proofs.Common.{◌≡◌, ◌≢◌, ℕ, ◌+◌, ◌*◌, ◌<◌, ◌≤◌, ◌⊎◌, Bool, true, false, cond, List}
+use Rattle.std.proofs.Common.{[], ◌∷◌, length, max, refl, inl, inr, ⊎_elim, arith, length-append}
+use Rattle.std.proofs.Common.{◌∙◌}
 use Rattle.std.proofs.Math.Nat.{mul-add, mul-le-mul_left}
 use Rattle.glb_rules.specs.World.{IsArmed, has_line, waits_on}
 use Rattle.glb_rules.specs.Effects.{phase_after_batch, tries_after}
@@ -24,7 +26,8 @@ use Rattle.glb_inbox.specs.inner.Members.{idle_when}
 use Rattle.glb_inbox.specs.inner.Rule.{IsArmedWhen, Sound, own_setup, own_free}
 
 -- lines do not depend on who is awake
-pub line_alike : (c : Cube) (q : Params) (a b : ℕ → Bool) (t v : ℕ) → has_line (setup_of c q a) t v ≡ has_line (setup_of c q b) t v
+pub line_alike : (c : Cube) (q : Params) (a b : ℕ → Bool) (t v : ℕ)
+    → has_line (setup_of c q a) t v ≡ has_line (setup_of c q b) t v
 unfolding has_line
 line_alike c q a b t v = refl
 
@@ -32,12 +35,14 @@ module _ {I : Type 0} (awake : ℕ → Bool) (r : Record I) (S : Sound awake r) 
   abbrev i : Inner (own_setup awake r) r.place r.local
   i = S.inner
 
-  pub sound_minted : r.local.phase ≡ phase.Working → r.local.credit ≡ credit.One → Sound awake (mint_row r)
+  pub sound_minted : r.local.phase ≡ phase.Working → r.local.credit ≡ credit.One
+      → Sound awake (mint_row r)
   sound_minted working one = record {
     near = S.near;
     inner = record {
       fits = rw working (
-        (let f : PhaseFits phase.Working r.local.credit (length r.local.bag) = rw working at i.fits in f.0),
+        (let f : PhaseFits phase.Working r.local.credit (length r.local.bag) =
+            rw working at i.fits in f.0),
         λ z. cc,
       );
       tries = i.tries;
@@ -49,7 +54,11 @@ module _ {I : Type 0} (awake : ℕ → Bool) (r : Record I) (S : Sound awake r) 
       near = i.near;
       unmarked = i.unmarked;
     };
-    counted = let o = S.counted in record { asks = o.asks; lines = o.lines; line_asks = o.line_asks };
+    counted = let o = S.counted in record {
+      asks = o.asks;
+      lines = o.lines;
+      line_asks = o.line_asks;
+    };
     lone = S.lone;
     there = S.there;
     steal = S.steal;
@@ -79,7 +88,11 @@ module _ {I : Type 0} (awake : ℕ → Bool) (r : Record I) (S : Sound awake r) 
       near = i.near;
       unmarked = i.unmarked;
     };
-    counted = let o = S.counted in record { asks = o.asks; lines = o.lines; line_asks = o.line_asks };
+    counted = let o = S.counted in record {
+      asks = o.asks;
+      lines = o.lines;
+      line_asks = o.line_asks;
+    };
     lone = S.lone;
     there = S.there;
     steal = S.steal;
@@ -95,7 +108,8 @@ module _ {I : Type 0} (awake : ℕ → Bool) (r : Record I) (S : Sound awake r) 
   armed_like seen.Loot h = h
 
   pub sound_slept : r.local.phase ≡ phase.Idle
-      → ((v : ℕ) → v < r.lines.places → has_line (setup_in r) r.place v ≡ true → IsArmed {I = I} (edge_like (known_at r.known kind.Line r.place v)))
+      → ((v : ℕ) → v < r.lines.places → has_line (setup_in r) r.place v ≡ true
+      → IsArmed {I = I} (edge_like (known_at r.known kind.Line r.place v)))
       → Sound awake (sleep_row r)
   sound_slept idle ready =
       let fits : PhaseFits phase.Idle r.local.credit (length r.local.bag) = rw idle at i.fits in
@@ -115,11 +129,17 @@ module _ {I : Type 0} (awake : ℕ → Bool) (r : Record I) (S : Sound awake r) 
           unmarked = λ k t n g. i.unmarked k t (rw idle (λ e. cc)) (rw idle (λ e. cc));
         };
         counted = let o = S.counted
-            in record { asks = o.asks; lines = o.lines; line_asks = (let a = o.line_asks in omega arith) };
+            in record {
+              asks = o.asks;
+              lines = o.lines;
+              line_asks =
+                  (let a = o.line_asks in omega arith);
+            };
         lone = S.lone;
         there = S.there;
         steal = λ v l n w. S.steal v l (rw idle (λ e. cc)) (rw idle refl);
-        armed = λ v l z h. armed_like _ (ready v l (line_alike r.lines r.params (λ p. false) awake r.place v ∙ h));
+        armed = λ v l z h. armed_like _
+            (ready v l (line_alike r.lines r.params (λ p. false) awake r.place v ∙ h));
         quiet = λ v l z. S.steal v l (rw idle (λ e. cc)) (rw idle refl);
         gone = λ g. absurd (cc);
       }
@@ -149,7 +169,11 @@ module _ {I : Type 0} (awake : ℕ → Bool) (r : Record I) (S : Sound awake r) 
       unmarked = λ k t n g. absurd (g refl);
     };
     counted = let o = S.counted
-        in record { asks = o.asks; lines = o.lines; line_asks = (let a = o.line_asks in omega arith) };
+        in record {
+          asks = o.asks;
+          lines = o.lines;
+          line_asks = (let a = o.line_asks in omega arith);
+        };
     lone = S.lone;
     there = S.there;
     steal = λ v l n w. absurd (n refl);
@@ -168,7 +192,8 @@ module _ {I : Type 0} (awake : ℕ → Bool) (r : Record I) (S : Sound awake r) 
     steal = S.steal;
     armed = S.armed;
     quiet = S.quiet;
-    gone = λ g. ⊎_elim (λ (o : r.over ≡ true). inl o) (λ (n : r.code ≢ 0). inr (λ (z : max r.code c ≡ 0). n (omega arith))) (S.gone g);
+    gone = λ g. ⊎_elim (λ (o : r.over ≡ true). inl o) (λ (n : r.code ≢ 0).
+        inr (λ (z : max r.code c ≡ 0). n (omega arith))) (S.gone g);
   }
 
   -- an item done allows a multiple more
@@ -176,8 +201,11 @@ module _ {I : Type 0} (awake : ℕ → Bool) (r : Record I) (S : Sound awake r) 
   more w n k l = let e = mul-add w n k in let d : w * 1 ≤ w * k = mul-le-mul_left w l in omega arith
 
   pub free_le : own_free awake r ≤ degree (own_setup awake r) r.place
-  free_le = sum_le r.lines.places (λ v. cond (has_line (own_setup awake r) r.place v) (idle_when (known_at r.known kind.Line r.place v)) 0)
-      (λ v. bit (has_line (own_setup awake r) r.place v)) (λ v l. each (has_line (own_setup awake r) r.place v) (known_at r.known kind.Line r.place v))
+  free_le = sum_le r.lines.places
+      (λ v. cond (has_line (own_setup awake r) r.place v)
+      (idle_when (known_at r.known kind.Line r.place v)) 0)
+      (λ v. bit (has_line (own_setup awake r) r.place v)) (λ v l.
+      each (has_line (own_setup awake r) r.place v) (known_at r.known kind.Line r.place v))
     where
       one : (e : Edge) → idle_when e ≤ 1
       one seen.Idle = omega arith
@@ -203,7 +231,8 @@ module _ {I : Type 0} (awake : ℕ → Bool) (r : Record I) (S : Sound awake r) 
   batch_rests [] n = omega arith
   batch_rests (x ∷ xs) n = omega arith
 
-  batch_waits : (rest : List I) (k : Kind) (v : ℕ) → (waits_on k v (phase_after_batch rest) ≡ false) × (phase_after_batch rest ≢ phase.Gone)
+  batch_waits : (rest : List I) (k : Kind) (v : ℕ) → (waits_on k v (phase_after_batch rest) ≡ false)
+      × (phase_after_batch rest ≢ phase.Gone)
   batch_waits [] k v = (refl, λ e. cc)
   batch_waits (x ∷ xs) k v = (refl, λ e. cc)
 
@@ -211,7 +240,8 @@ module _ {I : Type 0} (awake : ℕ → Bool) (r : Record I) (S : Sound awake r) 
   batch_near [] v k e = cc
   batch_near (x ∷ xs) v k e = cc
 
-  pub sound_settled : (total : ℕ) (taken rest : List I) → r.local.phase ≡ phase.Working → r.local.credit ≡ credit.One
+  pub sound_settled : (total : ℕ) (taken rest : List I) → r.local.phase ≡ phase.Working
+      → r.local.credit ≡ credit.One
       → 0 < length taken → Sound awake (batch_row total taken rest r)
   sound_settled total taken rest working one some =
       let n = r.local.count.items in
@@ -224,7 +254,8 @@ module _ {I : Type 0} (awake : ℕ → Bool) (r : Record I) (S : Sound awake r) 
           tries = t.0;
           items = (let e = i.items in omega (arith, length-append r.local.done taken));
           naps = i.naps;
-          asks = (let a = i.asks in let m = more most n (length taken) some in let t1 = t.1 in omega arith);
+          asks = (let a = i.asks in let m = more most n (length taken) some in let t1 =
+              t.1 in omega arith);
           sent = i.sent;
           wakes = i.wakes;
           near = λ v k e. absurd (batch_near rest v k e);
@@ -235,7 +266,8 @@ module _ {I : Type 0} (awake : ℕ → Bool) (r : Record I) (S : Sound awake r) 
           lines = o.lines;
           line_asks = (let a = o.line_asks in let f = free_le in
               let b = batch_rests rest (own_free awake r) in
-              let m = more (degree (own_setup awake r) r.place) n (length taken) some in omega arith);
+              let m = more (degree (own_setup awake r) r.place) n (length taken) some in
+              omega arith);
         });
         lone = S.lone;
         there = S.there;

@@ -1,5 +1,6 @@
 -- Events of a thief on one of its own edges keep what its record keeps by itself.
-use Rattle.std.proofs.Common.{◌≡◌, ◌≢◌, ℕ, ◌+◌, ◌<◌, ◌≤◌, ◌⊎◌, Bool, true, false, not, cond, List, ◌++◌, length, refl, inl, inr, ⊎_elim, arith, length-append, ◌∙◌}
+use Rattle.std.proofs.Common.{◌≡◌, ◌≢◌, ℕ, ◌+◌, ◌<◌, ◌≤◌, ◌⊎◌, Bool, true, false, not, cond, List}
+use Rattle.std.proofs.Common.{◌++◌, length, refl, inl, inr, ⊎_elim, arith, length-append, ◌∙◌}
 use Rattle.std.proofs.lemmas.Bool.{cases_eq}
 use Rattle.glb_rules.specs.World.{Idle, Asked, Refused, Loot, has_edge, has_line, waits_on}
 use Rattle.glb_rules.specs.Effects.{of_kind, wake_count, credit_after_take}
@@ -66,10 +67,12 @@ module _ {I : Type 0} (awake : ℕ → Bool) (r : Record I) (S : Sound awake r) 
   i = S.inner
 
   -- an edge that is known as other than Idle is there
-  pub is_there : (k : Kind) (v : ℕ) → v < r.lines.places → known_at r.known k p v ≢ seen.Idle → has_edge (own_setup awake r) k p v ≡ true
+  pub is_there : (k : Kind) (v : ℕ) → v < r.lines.places → known_at r.known k p v ≢ seen.Idle
+      → has_edge (own_setup awake r) k p v ≡ true
   is_there k v l n = go (has_edge (own_setup awake r) k p v) refl
     where
-      go : (b : Bool) → has_edge (own_setup awake r) k p v ≡ b → has_edge (own_setup awake r) k p v ≡ true
+      go : (b : Bool) → has_edge (own_setup awake r) k p v ≡ b → has_edge (own_setup awake r) k p v
+          ≡ true
       go true e = e
       go false e = absurd (n (S.there k v l e))
 
@@ -80,27 +83,32 @@ module _ {I : Type 0} (awake : ℕ → Bool) (r : Record I) (S : Sound awake r) 
   there_else k v x is j w l e =
       ⊎_elim
       (λ (a : j ≡ k). ⊎_elim
-      (λ (b : w ≡ v). absurd (let z : has_edge (own_setup awake r) k p v ≡ false = rw (a, b) at e in cc))
+      (λ (b : w ≡ v). absurd (let z : has_edge (own_setup awake r) k p v ≡ false =
+      rw (a, b) at e in cc))
       (λ (b : w ≢ v). miss r.known k p v x j p w (inr (inr b)) ∙ S.there j w l e)
       (cases_eq w v))
       (λ (a : j ≢ k). miss r.known k p v x j p w (inl a) ∙ S.there j w l e)
       (kind_cases j k)
 
   -- where the place waits on no steal edge, all are Idle
-  none_busy : r.local.phase ≢ phase.Gone → ((v : ℕ) → waits_on kind.Steal v r.local.phase ≡ false) → own_busy kind.Steal r ≡ 0
+  none_busy : r.local.phase ≢ phase.Gone → ((v : ℕ) → waits_on kind.Steal v r.local.phase ≡ false)
+      → own_busy kind.Steal r ≡ 0
   none_busy n w = sum_zero r.lines.places (λ v. busy_when (known_at r.known kind.Steal p v))
       (λ v l. rw (S.steal v l n (w v)) refl)
 
   abbrev free_of : ℕ → Edge → ℕ
   free_of v x = cond (has_line (own_setup awake r) p v) (idle_when x) 0
 
-  pub sound_asked_steal : (v : ℕ) → v < r.lines.places → r.local.phase ≡ phase.Idle → 0 < r.local.tries
-      → has_edge (own_setup awake r) kind.Steal p v ≡ true → known_at r.known kind.Steal p v ≡ seen.Idle
+  pub sound_asked_steal : (v : ℕ) → v < r.lines.places → r.local.phase ≡ phase.Idle
+      → 0 < r.local.tries
+      → has_edge (own_setup awake r) kind.Steal p v ≡ true → known_at r.known kind.Steal p v
+      ≡ seen.Idle
       → Sound awake (ask_row v kind.Steal r)
   sound_asked_steal v vl rested some is was =
       let f : PhaseFits phase.Idle r.local.credit (length r.local.bag) = rw rested at i.fits in
       let one : r.local.credit ≡ credit.One = f.1 in
-      let zero : own_busy kind.Steal r ≡ 0 = none_busy (rw rested (λ e. cc)) (λ w. rw rested refl) in
+      let zero : own_busy kind.Steal r ≡ 0 = none_busy (rw rested (λ e. cc))
+      (λ w. rw rested refl) in
       let here : own_busy kind.Steal (ask_row v kind.Steal r) + 0 ≡ own_busy kind.Steal r + 1 =
       rw was at (own_here r.known kind.Steal p v seen.Asked r.lines.places (λ w. busy_when) vl) in
       let away = own_away r.known kind.Steal p v seen.Asked r.lines.places in
@@ -119,23 +127,28 @@ module _ {I : Type 0} (awake : ℕ → Bool) (r : Record I) (S : Sound awake r) 
         };
         counted = (let c = S.counted in record {
           asks = (let a = c.asks in omega arith);
-          lines = (let a = c.lines in let q : own_busy kind.Line (ask_row v kind.Steal r) ≡ own_busy kind.Line r =
+          lines = (let a = c.lines in let q : own_busy kind.Line (ask_row v kind.Steal r)
+              ≡ own_busy kind.Line r =
               away (λ w. busy_when) kind.Line p (inl line_steal) in omega arith);
           line_asks = (let a = rw rested at c.line_asks in omega arith);
         });
         lone = omega arith;
         there = there_else kind.Steal v seen.Asked is;
         steal = λ w l n x. ⊎_elim
-            (λ (b : w ≡ v). absurd (let y : waits_on kind.Steal v (phase.Waiting v kind.Steal) ≡ false = rw b at x in let z = waits_self kind.Steal v in cc))
-            (λ (b : w ≢ v). miss r.known kind.Steal p v seen.Asked kind.Steal p w (inr (inr b)) ∙ S.steal w l (rw rested (λ e. cc)) (rw rested refl))
+            (λ (b : w ≡ v). absurd (let y : waits_on kind.Steal v (phase.Waiting v kind.Steal)
+            ≡ false = rw b at x in let z = waits_self kind.Steal v in cc))
+            (λ (b : w ≢ v). miss r.known kind.Steal p v seen.Asked kind.Steal p w (inr (inr b))
+            ∙ S.steal w l (rw rested (λ e. cc)) (rw rested refl))
             (cases_eq w v);
         armed = λ w l z. absurd (cc);
         quiet = λ w l z. absurd (cc);
         gone = λ g. absurd (cc);
       }
 
-  pub sound_asked_line : (v : ℕ) → v < r.lines.places → r.local.phase ≡ phase.Idle → r.local.tries ≡ 0
-      → has_edge (own_setup awake r) kind.Line p v ≡ true → known_at r.known kind.Line p v ≡ seen.Idle
+  pub sound_asked_line : (v : ℕ) → v < r.lines.places → r.local.phase ≡ phase.Idle
+      → r.local.tries ≡ 0
+      → has_edge (own_setup awake r) kind.Line p v ≡ true → known_at r.known kind.Line p v
+      ≡ seen.Idle
       → Sound awake (ask_row v kind.Line r)
   sound_asked_line v vl rested none is was =
       let f : PhaseFits phase.Idle r.local.credit (length r.local.bag) = rw rested at i.fits in
@@ -145,7 +158,8 @@ module _ {I : Type 0} (awake : ℕ → Bool) (r : Record I) (S : Sound awake r) 
       let free : own_free awake (ask_row v kind.Line r) + 1 ≡ own_free awake r + 0 =
       rw (was, is) at (own_here r.known kind.Line p v seen.Asked r.lines.places free_of vl) in
       let away : own_busy kind.Steal (ask_row v kind.Line r) ≡ own_busy kind.Steal r =
-      own_away r.known kind.Line p v seen.Asked r.lines.places (λ w. busy_when) kind.Steal p (inl steal_line) in
+      own_away r.known kind.Line p v seen.Asked r.lines.places (λ w. busy_when) kind.Steal p
+      (inl steal_line) in
       record {
         near = S.near;
         inner = record {
@@ -166,25 +180,30 @@ module _ {I : Type 0} (awake : ℕ → Bool) (r : Record I) (S : Sound awake r) 
         });
         lone = (let a = S.lone in omega arith);
         there = there_else kind.Line v seen.Asked is;
-        steal = λ w l n x. miss r.known kind.Line p v seen.Asked kind.Steal p w (inl steal_line) ∙ S.steal w l (rw rested (λ e. cc)) (rw rested refl);
+        steal = λ w l n x. miss r.known kind.Line p v seen.Asked kind.Steal p w (inl steal_line)
+            ∙ S.steal w l (rw rested (λ e. cc)) (rw rested refl);
         armed = λ w l z. absurd (cc);
         quiet = λ w l z. absurd (cc);
         gone = λ g. absurd (cc);
       }
 
   -- a steal request that was refused is given up
-  pub sound_shrugged_steal : (v : ℕ) → v < r.lines.places → r.local.phase ≡ phase.Waiting v kind.Steal
+  pub sound_shrugged_steal : (v : ℕ) → v < r.lines.places → r.local.phase
+      ≡ phase.Waiting v kind.Steal
       → known_at r.known kind.Steal p v ≡ seen.Refused → Sound awake (shrug_row v kind.Steal r)
   sound_shrugged_steal v vl waits was =
-      let f : PhaseFits (phase.Waiting v kind.Steal) r.local.credit (length r.local.bag) = rw waits at i.fits in
+      let f : PhaseFits (phase.Waiting v kind.Steal) r.local.credit (length r.local.bag) =
+      rw waits at i.fits in
       let one : r.local.credit ≡ credit.One = f.1 in
       let is = is_there kind.Steal v vl (rw was (λ e. cc)) in
       let here : own_busy kind.Steal (shrug_row v kind.Steal r) + 1 ≡ own_busy kind.Steal r + 0 =
       rw was at (own_here r.known kind.Steal p v seen.Idle r.lines.places (λ w. busy_when) vl) in
       let free : own_free awake (shrug_row v kind.Steal r) ≡ own_free awake r =
-      own_away r.known kind.Steal p v seen.Idle r.lines.places free_of kind.Line p (inl line_steal) in
+      own_away r.known kind.Steal p v seen.Idle r.lines.places free_of kind.Line p
+      (inl line_steal) in
       let away : own_busy kind.Line (shrug_row v kind.Steal r) ≡ own_busy kind.Line r =
-      own_away r.known kind.Steal p v seen.Idle r.lines.places (λ w. busy_when) kind.Line p (inl line_steal) in
+      own_away r.known kind.Steal p v seen.Idle r.lines.places (λ w. busy_when) kind.Line p
+      (inl line_steal) in
       record {
         near = S.near;
         inner = record {
@@ -207,7 +226,9 @@ module _ {I : Type 0} (awake : ℕ → Bool) (r : Record I) (S : Sound awake r) 
         there = there_else kind.Steal v seen.Idle is;
         steal = λ w l n x. ⊎_elim
             (λ (b : w ≡ v). rw b (hit r.known kind.Steal p v seen.Idle))
-            (λ (b : w ≢ v). miss r.known kind.Steal p v seen.Idle kind.Steal p w (inr (inr b)) ∙ S.steal w l (rw waits (λ e. cc)) (rw waits (waits_else kind.Steal v kind.Steal w (inr b))))
+            (λ (b : w ≢ v). miss r.known kind.Steal p v seen.Idle kind.Steal p w (inr (inr b))
+            ∙ S.steal w l (rw waits (λ e. cc))
+            (rw waits (waits_else kind.Steal v kind.Steal w (inr b))))
             (cases_eq w v);
         armed = λ w l z. absurd (cc);
         quiet = λ w l z. absurd (cc);
@@ -215,9 +236,11 @@ module _ {I : Type 0} (awake : ℕ → Bool) (r : Record I) (S : Sound awake r) 
       }
 
   -- a line stays Refused
-  pub sound_shrugged_line : (v : ℕ) → r.local.phase ≡ phase.Waiting v kind.Line → Sound awake (shrug_row v kind.Line r)
+  pub sound_shrugged_line : (v : ℕ) → r.local.phase ≡ phase.Waiting v kind.Line
+      → Sound awake (shrug_row v kind.Line r)
   sound_shrugged_line v waits =
-      let f : PhaseFits (phase.Waiting v kind.Line) r.local.credit (length r.local.bag) = rw waits at i.fits in
+      let f : PhaseFits (phase.Waiting v kind.Line) r.local.credit (length r.local.bag) =
+      rw waits at i.fits in
       let one : r.local.credit ≡ credit.One = f.1 in
       record {
         near = S.near;
@@ -251,7 +274,8 @@ module _ {I : Type 0} (awake : ℕ → Bool) (r : Record I) (S : Sound awake r) 
       ⊎ ((a.credit ≡ credit.Zero) × (wake_count a.phase ≡ 1) × (k ≡ kind.Line))
 
   abbrev pub MayTake : Kind → ℕ → Type 0
-  MayTake k v = ((r.local.phase ≡ phase.Waiting v k) × (r.local.credit ≡ credit.One)) ⊎ ((k ≡ kind.Line) × IsReady r.local)
+  MayTake k v = ((r.local.phase ≡ phase.Waiting v k) × (r.local.credit ≡ credit.One))
+      ⊎ ((k ≡ kind.Line) × IsReady r.local)
 
   pub taker : (k : Kind) (v : ℕ) → MayTake k v → Taker k r.local
   taker k v d = ⊎_elim
@@ -261,7 +285,8 @@ module _ {I : Type 0} (awake : ℕ → Bool) (r : Record I) (S : Sound awake r) 
       let f : PhaseFits phase.Asleep r.local.credit (length r.local.bag) = rw z at i.fits
       in inr (f.1, rw z refl, x.0))
       (λ y. ⊎_elim
-      (λ (z : r.local.phase ≡ phase.Idle). let f : PhaseFits phase.Idle r.local.credit (length r.local.bag) = rw z at i.fits
+      (λ (z : r.local.phase ≡ phase.Idle). let f : PhaseFits phase.Idle r.local.credit
+      (length r.local.bag) = rw z at i.fits
       in inl (f.1, rw z refl))
       (λ z. inl (z.1, rw z.0 refl))
       y)
@@ -270,7 +295,8 @@ module _ {I : Type 0} (awake : ℕ → Bool) (r : Record I) (S : Sound awake r) 
 
   -- a taker waits on no other edge, and is not Gone
   taker_waits : (k : Kind) (v : ℕ) → MayTake k v
-      → (r.local.phase ≢ phase.Gone) × ((j : Kind) (u : ℕ) → (j ≢ k) ⊎ (u ≢ v) → waits_on j u r.local.phase ≡ false)
+      → (r.local.phase ≢ phase.Gone)
+      × ((j : Kind) (u : ℕ) → (j ≢ k) ⊎ (u ≢ v) → waits_on j u r.local.phase ≡ false)
   taker_waits k v d = ⊎_elim
       (λ w. rw w.0 (λ e. cc, λ j u x. waits_else k v j u x))
       (λ x. ⊎_elim
@@ -304,15 +330,20 @@ module _ {I : Type 0} (awake : ℕ → Bool) (r : Record I) (S : Sound awake r) 
       (λ x. let z : wake_count a.phase ≡ 1 = x.1 in rw x.2 (omega arith))
       d
 
-  took_counted : (k : Kind) (v : ℕ) (part rest : List I) → v < r.lines.places → known_at r.known k p v ≡ seen.Loot
+  took_counted : (k : Kind) (v : ℕ) (part rest : List I) → v < r.lines.places
+      → known_at r.known k p v ≡ seen.Loot
       → Counted (own_setup awake r) p (takes_in v k part rest r).local
-      (own_busy kind.Steal (takes_in v k part rest r)) (own_busy kind.Line (takes_in v k part rest r)) (own_free awake (takes_in v k part rest r))
+      (own_busy kind.Steal (takes_in v k part rest r))
+      (own_busy kind.Line (takes_in v k part rest r))
+      (own_free awake (takes_in v k part rest r))
       × (own_busy kind.Steal (takes_in v k part rest r) ≤ own_busy kind.Steal r)
   took_counted kind.Steal v part rest vl was =
-      let here : own_busy kind.Steal (takes_in v kind.Steal part rest r) + 1 ≡ own_busy kind.Steal r + 0 =
+      let here : own_busy kind.Steal (takes_in v kind.Steal part rest r) + 1
+      ≡ own_busy kind.Steal r + 0 =
       rw was at (own_here r.known kind.Steal p v seen.Idle r.lines.places (λ w. busy_when) vl) in
       let away : own_busy kind.Line (takes_in v kind.Steal part rest r) ≡ own_busy kind.Line r =
-      own_away r.known kind.Steal p v seen.Idle r.lines.places (λ w. busy_when) kind.Line p (inl line_steal) in
+      own_away r.known kind.Steal p v seen.Idle r.lines.places (λ w. busy_when) kind.Line p
+      (inl line_steal) in
       let c = S.counted in (
         record {
           asks = (let a = c.asks in omega arith);
@@ -322,10 +353,12 @@ module _ {I : Type 0} (awake : ℕ → Bool) (r : Record I) (S : Sound awake r) 
         omega arith,
       )
   took_counted kind.Line v part rest vl was =
-      let here : own_busy kind.Line (takes_in v kind.Line part rest r) + 1 ≡ own_busy kind.Line r + 0 =
+      let here : own_busy kind.Line (takes_in v kind.Line part rest r) + 1
+      ≡ own_busy kind.Line r + 0 =
       rw was at (own_here r.known kind.Line p v seen.Idle r.lines.places (λ w. busy_when) vl) in
       let away : own_busy kind.Steal (takes_in v kind.Line part rest r) ≡ own_busy kind.Steal r =
-      own_away r.known kind.Line p v seen.Idle r.lines.places (λ w. busy_when) kind.Steal p (inl steal_line) in
+      own_away r.known kind.Line p v seen.Idle r.lines.places (λ w. busy_when) kind.Steal p
+      (inl steal_line) in
       let c = S.counted in (
         record {
           asks = (let a = c.asks in omega arith);
@@ -335,7 +368,8 @@ module _ {I : Type 0} (awake : ℕ → Bool) (r : Record I) (S : Sound awake r) 
         omega arith,
       )
 
-  pub sound_took : (k : Kind) (v : ℕ) (part : List I) → v < r.lines.places → known_at r.known k p v ≡ seen.Loot
+  pub sound_took : (k : Kind) (v : ℕ) (part : List I) → v < r.lines.places
+      → known_at r.known k p v ≡ seen.Loot
       → MayTake k v → 0 < length part → Sound awake (takes_in v k part (part ++ r.local.bag) r)
   sound_took k v part vl was d some =
       let t = taker k v d in
@@ -348,7 +382,8 @@ module _ {I : Type 0} (awake : ℕ → Bool) (r : Record I) (S : Sound awake r) 
           fits = (omega (arith, length-append part r.local.bag), took_not_zero r.local.credit);
           tries = i.tries;
           items = i.items;
-          naps = take_naps k r.local r.local.count.sleeps r.local.count.wakes (bit (not (awake p))) t i.naps;
+          naps = take_naps k r.local r.local.count.sleeps r.local.count.wakes (bit (not (awake p)))
+              t i.naps;
           asks = (let a = i.asks in omega arith);
           sent = i.sent;
           wakes = take_wakes k r.local r.local.count.wakes r.local.count.line_got t i.wakes;
@@ -359,8 +394,10 @@ module _ {I : Type 0} (awake : ℕ → Bool) (r : Record I) (S : Sound awake r) 
         lone = (let a = S.lone in let b = q.1 in omega arith);
         there = there_else k v seen.Idle is;
         steal = λ u l n x. ⊎_elim
-            (λ (same : (kind.Steal ≡ k) × (u ≡ v)). rw (same.0, same.1) (hit r.known k p v seen.Idle))
-            (λ (d : (kind.Steal ≢ k) ⊎ (u ≢ v)). miss r.known k p v seen.Idle kind.Steal p u (⊎_elim (λ a. inl a) (λ a. inr (inr a)) d) ∙ S.steal u l w.0 (w.1 kind.Steal u d))
+            (λ (same : (kind.Steal ≡ k) × (u ≡ v)). rw (same.0, same.1)
+            (hit r.known k p v seen.Idle))
+            (λ (d : (kind.Steal ≢ k) ⊎ (u ≢ v)). miss r.known k p v seen.Idle kind.Steal p u
+            (⊎_elim (λ a. inl a) (λ a. inr (inr a)) d) ∙ S.steal u l w.0 (w.1 kind.Steal u d))
             (both k u v);
         armed = λ u l z. absurd (took_not_zero r.local.credit z);
         quiet = λ u l z. absurd (took_not_zero r.local.credit z);
@@ -369,5 +406,6 @@ module _ {I : Type 0} (awake : ℕ → Bool) (r : Record I) (S : Sound awake r) 
     where
       both : (k : Kind) (u v : ℕ) → ((kind.Steal ≡ k) × (u ≡ v)) ⊎ ((kind.Steal ≢ k) ⊎ (u ≢ v))
       both k u v = ⊎_elim
-          (λ (a : kind.Steal ≡ k). ⊎_elim (λ (b : u ≡ v). inl (a, b)) (λ (b : u ≢ v). inr (inr b)) (cases_eq u v))
+          (λ (a : kind.Steal ≡ k). ⊎_elim (λ (b : u ≡ v). inl (a, b)) (λ (b : u ≢ v). inr (inr b))
+          (cases_eq u v))
           (λ (a : kind.Steal ≢ k). inr (inl a)) (kind_cases kind.Steal k)

@@ -1,5 +1,6 @@
 -- What a place does as the victim of an edge, and its looks, keep what its record keeps by itself.
-use Rattle.std.proofs.Common.{◌≡◌, ◌≢◌, ℕ, ◌+◌, ◌*◌, ◌^◌, ◌<◌, ◌≤◌, Bool, true, false, cond, ◌&&◌, List, length, refl, sym, inl, inr, ⊎_elim, arith, ◌∙◌, ap, subst}
+use Rattle.std.proofs.Common.{◌≡◌, ◌≢◌, ℕ, ◌+◌, ◌*◌, ◌^◌, ◌<◌, ◌≤◌, Bool, true, false, cond, ◌&&◌}
+use Rattle.std.proofs.Common.{List, length, refl, sym, inl, inr, ⊎_elim, arith, ◌∙◌, ap, subst}
 use Rattle.std.proofs.lemmas.Bool.{cases_eq}
 use Rattle.glb_rules.specs.World.{has_line, mark_at, units_of}
 use Rattle.glb_laws.specs.Sums.{sum_to}
@@ -53,12 +54,17 @@ module _ {I : Type 0} (awake : ℕ → Bool) (r : Record I) (S : Sound awake r) 
     -- the part after, which may differ in credit, bag, marks and what it counts of its gifts
     pub sound_served : (b : Local I) → Inner (own_setup awake r) p b → b.phase ≡ r.local.phase
         → (b.credit ≡ credit.Zero → r.local.credit ≡ credit.Zero)
-        → Counted (own_setup awake r) p b (own_busy kind.Steal r) (own_busy kind.Line r) (own_free awake r)
+        → Counted (own_setup awake r) p b (own_busy kind.Steal r) (own_busy kind.Line r)
+        (own_free awake r)
         → Sound awake (known_row (name_of k t p) x (record r { local = b }))
     sound_served b inner same paid counted = record {
       near = S.near;
       inner = inner;
-      counted = rw (own_same (λ v. busy_when) kind.Steal, own_same (λ v. busy_when) kind.Line, own_same free_of kind.Line) counted;
+      counted = rw (
+        own_same (λ v. busy_when) kind.Steal,
+        own_same (λ v. busy_when) kind.Line,
+        own_same free_of kind.Line,
+      ) counted;
       lone = rw (own_same (λ v. busy_when) kind.Steal) S.lone;
       there = λ j w l e. known_same j w ∙ S.there j w l e;
       steal = λ w l g d. known_same kind.Steal w ∙ S.steal w l (rw same at g) (rw same at d);
@@ -80,7 +86,11 @@ module _ {I : Type 0} (awake : ℕ → Bool) (r : Record I) (S : Sound awake r) 
         near = i.near;
         unmarked = λ j u n g. unmarked_put r.local.marks k t j u (i.unmarked j u n g);
       })
-      refl (λ z. z) (let o = S.counted in record { asks = o.asks; lines = o.lines; line_asks = o.line_asks })
+      refl (λ z. z) (let o = S.counted in record {
+        asks = o.asks;
+        lines = o.lines;
+        line_asks = o.line_asks;
+      })
 
   -- one gift more allows its units
   sent_more : (k : Kind) (sent g l u : ℕ) → sent ≤ 2 ^ 64 * (g + l) → u ≤ 2 ^ 64
@@ -97,15 +107,18 @@ module _ {I : Type 0} (awake : ℕ → Bool) (r : Record I) (S : Sound awake r) 
         items = i.items;
         naps = rw minted at i.naps;
         asks = i.asks;
-        sent = sent_more k r.local.count.sent_units r.local.count.given r.local.count.line_given (units_of part) i.sent (omega arith);
+        sent = sent_more k r.local.count.sent_units r.local.count.given r.local.count.line_given
+            (units_of part) i.sent (omega arith);
         wakes = i.wakes;
         near = i.near;
         unmarked = λ j u n g. absurd (n working);
       })
-      refl (λ z. absurd (cc)) (let o = S.counted in record { asks = o.asks; lines = o.lines; line_asks = o.line_asks })
+      refl (λ z. absurd (cc)) (let o =
+      S.counted in record { asks = o.asks; lines = o.lines; line_asks = o.line_asks })
 
   -- an in-edge is looked at
-  pub sound_seen_in : (t : ℕ) (k : Kind) (x : Edge) → p ≢ t → Sound awake (known_row (name_of k t p) x r)
+  pub sound_seen_in : (t : ℕ) (k : Kind) (x : Edge) → p ≢ t
+      → Sound awake (known_row (name_of k t p) x r)
   sound_seen_in t k x other = sound_served t k x other r.local i refl (λ z. z) S.counted
 
   working_is : (f : Phase) → is_working f ≡ true → f ≡ phase.Working
@@ -115,7 +128,8 @@ module _ {I : Type 0} (awake : ℕ → Bool) (r : Record I) (S : Sound awake r) 
   working_is phase.Asleep e = cc
   working_is phase.Gone e = cc
 
-  pub sound_marked : (t : ℕ) (k : Kind) (x : Edge) → p ≢ t → r.local.phase ≡ phase.Working → Sound awake (mark_row t k x r)
+  pub sound_marked : (t : ℕ) (k : Kind) (x : Edge) → p ≢ t → r.local.phase ≡ phase.Working
+      → Sound awake (mark_row t k x r)
   sound_marked t k x other working = sound_served t k x other _
       (record {
         fits = i.fits;
@@ -128,22 +142,32 @@ module _ {I : Type 0} (awake : ℕ → Bool) (r : Record I) (S : Sound awake r) 
         near = i.near;
         unmarked = λ j u n g. absurd (n working);
       })
-      refl (λ z. z) (let o = S.counted in record { asks = o.asks; lines = o.lines; line_asks = o.line_asks })
+      refl (λ z. z) (let o = S.counted in record {
+        asks = o.asks;
+        lines = o.lines;
+        line_asks = o.line_asks;
+      })
 
   and_left : (a b : Bool) → (a && b) ≡ true → a ≡ true
   and_left true b e = refl
   and_left false b e = e
 
-  pub sound_looked_in : (t : ℕ) (k : Kind) (x : Edge) → p ≢ t → Sound awake (look_row t k side.Inward x r)
-  sound_looked_in t k x other = go (is_working r.local.phase && is_mark mark.Unseen (mark_at r.local.marks k t)) refl
+  pub sound_looked_in : (t : ℕ) (k : Kind) (x : Edge) → p ≢ t
+      → Sound awake (look_row t k side.Inward x r)
+  sound_looked_in t k x other =
+      go (is_working r.local.phase && is_mark mark.Unseen (mark_at r.local.marks k t)) refl
     where
-      go : (b : Bool) → (is_working r.local.phase && is_mark mark.Unseen (mark_at r.local.marks k t)) ≡ b
+      go : (b : Bool) → (is_working r.local.phase && is_mark mark.Unseen
+          (mark_at r.local.marks k t)) ≡ b
           → Sound awake (cond b (mark_row t k x r) (known_row (name_of k t p) x r))
-      go true e = sound_marked t k x other (working_is r.local.phase (and_left (is_working r.local.phase) (is_mark mark.Unseen (mark_at r.local.marks k t)) e))
+      go true e = sound_marked t k x other
+          (working_is r.local.phase
+          (and_left (is_working r.local.phase) (is_mark mark.Unseen (mark_at r.local.marks k t)) e))
       go false e = sound_seen_in t k x other
 
   -- what a look outward may find: an edge that is Idle stays so, and one that is armed stays so
-  found_busy : (k : Kind) (a x : Edge) → CanFind mark.Unseen k side.Outward a x → busy_when x ≡ busy_when a
+  found_busy : (k : Kind) (a x : Edge) → CanFind mark.Unseen k side.Outward a x
+      → busy_when x ≡ busy_when a
   found_busy k seen.Idle seen.Idle h = refl
   found_busy k seen.Asked seen.Asked h = refl
   found_busy k seen.Asked seen.Refused h = refl
@@ -192,7 +216,8 @@ module _ {I : Type 0} (awake : ℕ → Bool) (r : Record I) (S : Sound awake r) 
   busy_none a seen.Refused e h = absurd (let z : 1 ≡ busy_when seen.Idle = rw h at e in omega arith)
   busy_none a seen.Loot e h = absurd (let z : 1 ≡ busy_when seen.Idle = rw h at e in omega arith)
 
-  found_armed : (k : Kind) (a x : Edge) → CanFind mark.Unseen k side.Outward a x → IsArmedWhen a → IsArmedWhen x
+  found_armed : (k : Kind) (a x : Edge) → CanFind mark.Unseen k side.Outward a x → IsArmedWhen a
+      → IsArmedWhen x
   found_armed k seen.Idle x h z = absurd z
   found_armed k seen.Asked x h z = absurd z
   found_armed k seen.Refused seen.Refused h z = tt
@@ -209,35 +234,49 @@ module _ {I : Type 0} (awake : ℕ → Bool) (r : Record I) (S : Sound awake r) 
   found_armed kind.Line seen.Loot seen.Asked h z = absurd h
 
   pub sound_looked_out : (v : ℕ) (k : Kind) (x : Edge) → v < r.lines.places
-      → CanFind mark.Unseen k side.Outward (known_at r.known k p v) x → Sound awake (look_row v k side.Outward x r)
+      → CanFind mark.Unseen k side.Outward (known_at r.known k p v) x
+      → Sound awake (look_row v k side.Outward x r)
   sound_looked_out v k x vl found =
-      let same : busy_when x ≡ busy_when (known_at r.known k p v) = found_busy k (known_at r.known k p v) x found in
+      let same : busy_when x ≡ busy_when (known_at r.known k p v) =
+      found_busy k (known_at r.known k p v) x found in
       record {
         near = S.near;
         inner = i;
         counted = rw (busy kind.Steal same, busy kind.Line same, free same) S.counted;
         lone = rw (busy kind.Steal same) S.lone;
-        there = λ j w l e. else_or j w (λ y. y ≡ seen.Idle) (λ a b. busy_none _ x same (rw (a, b) at (S.there j w l e))) (S.there j w l e);
-        steal = λ w l n d. else_or kind.Steal w (λ y. y ≡ seen.Idle) (λ a b. busy_none _ x same (rw (a, b) at (S.steal w l n d))) (S.steal w l n d);
-        armed = λ w l z h. else_or kind.Line w IsArmedWhen (λ a b. found_armed k _ x found (rw (a, b) at (S.armed w l z h))) (S.armed w l z h);
-        quiet = λ w l z. else_or kind.Steal w (λ y. y ≡ seen.Idle) (λ a b. busy_none _ x same (rw (a, b) at (S.quiet w l z))) (S.quiet w l z);
+        there = λ j w l e. else_or j w (λ y. y ≡ seen.Idle) (λ a b.
+            busy_none _ x same (rw (a, b) at (S.there j w l e))) (S.there j w l e);
+        steal = λ w l n d. else_or kind.Steal w (λ y. y ≡ seen.Idle)
+            (λ a b. busy_none _ x same (rw (a, b) at (S.steal w l n d))) (S.steal w l n d);
+        armed = λ w l z h. else_or kind.Line w IsArmedWhen (λ a b.
+            found_armed k _ x found (rw (a, b) at (S.armed w l z h))) (S.armed w l z h);
+        quiet = λ w l z. else_or kind.Steal w (λ y. y ≡ seen.Idle)
+            (λ a b. busy_none _ x same (rw (a, b) at (S.quiet w l z))) (S.quiet w l z);
         gone = S.gone;
       }
     where
-      busy : (j : Kind) → busy_when x ≡ busy_when (known_at r.known k p v) → own_busy j (look_row v k side.Outward x r) ≡ own_busy j r
+      busy : (j : Kind) → busy_when x ≡ busy_when (known_at r.known k p v)
+          → own_busy j (look_row v k side.Outward x r) ≡ own_busy j r
       busy j same = ⊎_elim
-          (λ (a : j ≡ k). rw a (let e = own_here r.known k p v x r.lines.places (λ w. busy_when) vl in omega arith))
+          (λ (a : j ≡ k). rw a (let e = own_here r.known k p v x r.lines.places (λ w. busy_when)
+          vl in omega arith))
           (λ (a : j ≢ k). own_away r.known k p v x r.lines.places (λ w. busy_when) j p (inl a))
           (kind_cases j k)
 
-      free : busy_when x ≡ busy_when (known_at r.known k p v) → own_free awake (look_row v k side.Outward x r) ≡ own_free awake r
+      free : busy_when x ≡ busy_when (known_at r.known k p v)
+          → own_free awake (look_row v k side.Outward x r) ≡ own_free awake r
       free same = ⊎_elim
-          (λ (a : kind.Line ≡ k). rw a (let e = own_here r.known k p v x r.lines.places free_of vl in
-          let q : free_of v x ≡ free_of v (known_at r.known k p v) = ap (λ y. cond (has_line (own_setup awake r) p v) y 0) (busy_idle _ x same) in omega arith))
-          (λ (a : kind.Line ≢ k). own_away r.known k p v x r.lines.places free_of kind.Line p (inl a))
+          (λ (a : kind.Line ≡ k). rw a
+          (let e = own_here r.known k p v x r.lines.places free_of vl in
+          let q : free_of v x ≡ free_of v (known_at r.known k p v) =
+          ap (λ y. cond (has_line (own_setup awake r) p v) y 0) (busy_idle _ x same) in
+          omega arith))
+          (λ (a : kind.Line ≢ k). own_away r.known k p v x r.lines.places free_of kind.Line p
+          (inl a))
           (kind_cases kind.Line k)
 
-      else_or : (j : Kind) (w : ℕ) (F : Edge → Type 0) → (j ≡ k → w ≡ v → F x) → F (known_at r.known j p w) → F (known_at (more r.known k p v x) j p w)
+      else_or : (j : Kind) (w : ℕ) (F : Edge → Type 0) → (j ≡ k → w ≡ v → F x)
+          → F (known_at r.known j p w) → F (known_at (more r.known k p v x) j p w)
       else_or j w F here away = ⊎_elim
           (λ (a : j ≡ k). ⊎_elim
           (λ (b : w ≡ v). subst F (sym (rw (a, b) (hit r.known k p v x))) (here a b))

@@ -1,16 +1,20 @@
--- Sums, joined lists and facts of each member, in any order of the members; and what becomes of all members of
--- all views where one view is replaced, split in two or joined into another.
+-- Sums, joined lists and facts of each member, in any order of the members; and what becomes of all
+-- members of all views where one view is replaced, split in two or joined into another.
 use mathlib.Core.Option.{some, some-injective, some-ne-none}
 use lib.ListN.{get_elem?}
-use Rattle.std.proofs.Common.{◌≡◌, ◌≢◌, ℕ, zero, suc, ◌+◌, ◌≤◌, List, [], ◌∷◌, ◌++◌, set, refl, sym, ap, subst, ◌∙◌, arith, append_assoc, append-nil, IsPermutation}
+use Rattle.std.proofs.Common.{◌≡◌, ◌≢◌, ℕ, zero, suc, ◌+◌, ◌≤◌, List, [], ◌∷◌, ◌++◌, set, refl, sym}
+use Rattle.std.proofs.Common.{ap, subst, ◌∙◌, arith, append_assoc, append-nil, IsPermutation}
 use Rattle.std.specs.List.{flat_map}
 use Rattle.std.proofs.lemmas.Grind.{flat_map-append}
-use Rattle.std.proofs.lemmas.List.Sorted.{IsPermutation-refl, IsPermutation-trans, IsPermutation-append_left, IsPermutation-append_right, IsPermutation-append_comm}
+use Rattle.std.proofs.lemmas.List.Sorted.{IsPermutation-refl, IsPermutation-trans}
+use Rattle.std.proofs.lemmas.List.Sorted.{IsPermutation-append_left, IsPermutation-append_right}
+use Rattle.std.proofs.lemmas.List.Sorted.{IsPermutation-append_comm}
 use Rattle.glb_laws.proofs.Shuffles.{along_permutation}
 use Rattle.glb_inbox.specs.inner.Members.{total, Each}
 
 module _ {A : Type 0} where
-  pub total_permutation : (f : A → ℕ) (xs ys : List A) → IsPermutation xs ys → total f xs ≡ total f ys
+  pub total_permutation : (f : A → ℕ) (xs ys : List A) → IsPermutation xs ys
+      → total f xs ≡ total f ys
   total_permutation f =
       along_permutation (λ xs ys. total f xs ≡ total f ys) refl (λ x xs ys h. ap (λ n. f x + n) h)
       (λ x y xs. omega arith) (λ xs ys zs g h. g ∙ h)
@@ -19,11 +23,13 @@ module _ {A : Type 0} where
   total_append f [] ys = omega arith
   total_append f (x ∷ xs) ys = let e = total_append f xs ys in omega arith
 
-  pub total_le : (f g : A → ℕ) (F : A → Type 0) → ((x : A) → F x → f x ≤ g x) → (xs : List A) → Each F xs → total f xs ≤ total g xs
+  pub total_le : (f g : A → ℕ) (F : A → Type 0) → ((x : A) → F x → f x ≤ g x) → (xs : List A)
+      → Each F xs → total f xs ≤ total g xs
   total_le f g F le [] h = omega arith
   total_le f g F le (x ∷ xs) h = let a = le x h.0 in let b = total_le f g F le xs h.1 in omega arith
 
-  pub each_permutation : (F : A → Type 0) (xs ys : List A) → IsPermutation xs ys → Each F xs → Each F ys
+  pub each_permutation : (F : A → Type 0) (xs ys : List A) → IsPermutation xs ys → Each F xs
+      → Each F ys
   each_permutation F =
       along_permutation (λ xs ys. Each F xs → Each F ys) (λ e. e) (λ x xs ys h e. (e.0, h e.1))
       (λ x y xs e. (e.1.0, (e.0, e.1.1))) (λ xs ys zs g h e. h (g e))
@@ -63,7 +69,8 @@ module _ {A : Type 0} where
   any_replaced [] i a e = absurd (some-ne-none a (sym e))
   any_replaced (x ∷ rs) zero a e = (
     flat_map (λ v. v) rs,
-    subst (λ l. IsPermutation (x ++ flat_map (λ v. v) rs) (l ++ flat_map (λ v. v) rs)) (some-injective x a e)
+    subst (λ l. IsPermutation (x ++ flat_map (λ v. v) rs) (l ++ flat_map (λ v. v) rs))
+        (some-injective x a e)
         (IsPermutation-refl _),
     λ b. IsPermutation-refl _,
   )
@@ -98,7 +105,8 @@ module _ {A : Type 0} where
       )
 
   -- two of the lists are replaced
-  pub two_replaced : (rs : List (List A)) (i j : ℕ) (a b c d : List A) → i ≢ j → get_elem? rs i ≡ some a
+  pub two_replaced : (rs : List (List A)) (i j : ℕ) (a b c d : List A) → i ≢ j
+      → get_elem? rs i ≡ some a
       → get_elem? rs j ≡ some b
       → (rest : List A) × IsPermutation (flat_map (λ v. v) rs) (a ++ (b ++ rest))
       × IsPermutation (flat_map (λ v. v) (set (set rs i c) j d)) (c ++ (d ++ rest))
@@ -107,14 +115,16 @@ module _ {A : Type 0} where
   two_replaced (x ∷ rs) zero (suc j) a b c d n e f =
       let m = replaced rs j b d f in (
         m.0,
-        subst (λ l. IsPermutation (x ++ flat_map (λ v. v) rs) (l ++ (b ++ m.0))) (some-injective x a e)
+        subst (λ l. IsPermutation (x ++ flat_map (λ v. v) rs) (l ++ (b ++ m.0)))
+            (some-injective x a e)
             (IsPermutation-append_right x _ _ m.1),
         IsPermutation-append_right c _ _ m.2,
       )
   two_replaced (x ∷ rs) (suc i) zero a b c d n e f =
       let m = replaced rs i a c e in (
         m.0,
-        subst (λ l. IsPermutation (x ++ flat_map (λ v. v) rs) (a ++ (l ++ m.0))) (some-injective x b f)
+        subst (λ l. IsPermutation (x ++ flat_map (λ v. v) rs) (a ++ (l ++ m.0)))
+            (some-injective x b f)
             (then (IsPermutation-append_right x _ _ m.1) (flip_first x a m.0)),
         then (IsPermutation-append_right d _ _ m.2) (flip_first d c m.0),
       )
@@ -122,7 +132,9 @@ module _ {A : Type 0} where
       let m = two_replaced rs i j a b c d (λ q. n (ap suc q)) e f in (
         x ++ m.0,
         then (IsPermutation-append_right x _ _ m.1)
-            (then (flip_first x a (b ++ m.0)) (IsPermutation-append_right a _ _ (flip_first x b m.0))),
+            (then (flip_first x a (b ++ m.0))
+            (IsPermutation-append_right a _ _ (flip_first x b m.0))),
         then (IsPermutation-append_right x _ _ m.2)
-            (then (flip_first x c (d ++ m.0)) (IsPermutation-append_right c _ _ (flip_first x d m.0))),
+            (then (flip_first x c (d ++ m.0))
+            (IsPermutation-append_right c _ _ (flip_first x d m.0))),
       )

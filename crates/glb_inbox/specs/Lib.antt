@@ -1,4 +1,6 @@
+pub mod Keeping
 pub mod Posts
+pub mod Viewing
 pub mod inner
 pub use Rattle.glb_place.specs.Records
 pub use Rattle.glb_place.specs.Rows

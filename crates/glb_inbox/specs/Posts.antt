@@ -1,19 +1,22 @@
 -- What contracts see of a post and of its desks.
-use Rattle.std.specs.Prelude.{◌≡◌, ℕ, ◌+◌, ◌<◌, ◌==◌, nat_lt, Bool, false, cond, List, [], length, get_or, Option, None}
+use Rattle.std.specs.Prelude.{◌≡◌, ℕ, ◌+◌, ◌<◌, ◌==◌, nat_lt, true, cond, List, [], length, get_or}
 use Rattle.atomic_table.specs.Seated.{TableId}
 use Rattle.glb_cube.specs.Lines.{Cube}
 use Rattle.glb_rules.specs.Joins.{join_to}
 use Rattle.glb_rules.specs.World.{Setup}
 use Rattle.glb_rules.specs.declared.kinds.Edge.{Edge}
 use Rattle.glb_rules.specs.declared.kinds.Kind.{Kind}
-use Rattle.glb_rules.specs.declared.kinds.Kind.TheVariants as kind
+use Rattle.glb_rules.specs.declared.kinds.Side.{Side}
 use Rattle.glb_rules.specs.declared.local.EdgeName.{EdgeName}
 use Rattle.glb_rules.specs.declared.params.Params.{Params}
 use Rattle.glb_core.specs.Lifelines.{setup_for}
 use Rattle.glb_place.specs.declared.record.Record.{Record}
-use Rattle.glb_place.specs.Records.{IsFirst}
+use Rattle.glb_place.specs.Records.{IsFirst, knows}
+use Rattle.glb_place.specs.Calls.{SameObject, edge_with}
 use Rattle.glb_place.specs.Looks.{Looks}
 use Rattle.glb_inbox.specs.declared.home.DeskHome.{DeskHome}
+use Rattle.glb_inbox.specs.Keeping.{LaneView, MayReceive, kept_at, lane_at, look_at, no_lane}
+use Rattle.glb_inbox.specs.Keeping.{told_by}
 
 -- a post: the table of its words, and what the run began with; `bags` are the items of the bags, by
 -- place
@@ -24,16 +27,8 @@ pub record PostView (P I : Type 0) : Type 0 where
   pub lines : Cube
   pub bags : List (List I)
 
--- the messages that a desk keeps for its two edges of one kind with another place, and how often it
--- looked at them
-pub record LaneView : Type 0 where
-  pub request : Bool
-  pub answer : Option Edge
-  pub inward_looks : ℕ
-  pub outward_looks : ℕ
-
--- a desk: its program, its place's record, where it belongs, how many steps on the words it made and
--- the word that the last one found, its lanes, and how often it looked at live and at stop
+-- a desk: its program, its place's record, where it belongs, how many steps on the words it made
+-- and the word that the last one found, its lanes, and how often it looked at live and at stop
 pub record DeskView (P I : Type 0) : Type 0 where
   pub program : P
   pub kept : Record I
@@ -52,19 +47,10 @@ home_at id p = record {
   place = p;
 }
 
--- where the lane of this kind with this place stands
-abbrev pub lane_of : ℕ → Kind → ℕ → ℕ
-lane_of places kind.Steal other = other
-lane_of places kind.Line other = places + other
-
--- a lane over which nothing came
-abbrev pub no_lane : LaneView
-no_lane = record { request = false; answer = None; inward_looks = 0; outward_looks = 0 }
-
 -- a number of the lane of this kind with this place, 0 where there is no such place
 abbrev pub lane_looks : (LaneView → ℕ) → ℕ → List LaneView → Kind → ℕ → ℕ
 lane_looks f places lanes k other =
-    cond (nat_lt other places) (f (get_or lanes (lane_of places k other) no_lane)) 0
+    cond (nat_lt other places) (f (get_or lanes (lane_at places k other) no_lane)) 0
 
 -- how often the desk looked at an edge; 0 for an edge that is not its place's
 abbrev pub edge_looks : ℕ → ℕ → List LaneView → EdgeName → ℕ
@@ -106,6 +92,31 @@ module _ {P I : Type 0} where
     live = d.live_looks;
     stop = d.stop_looks;
   }
+
+  -- the desk is of the same program, of the same post and for the same place
+  abbrev pub SameDesk : DeskView P I → DeskView P I → Type 0
+  SameDesk = SameObject (λ d. d.program) (λ d. d.home) (λ d. true)
+
+  -- the desk made one step on a word, which it found so, and keeps the messages that it kept
+  pub record FindsWord (word : ℕ) (old new : DeskView P I) : Type 0 where
+    pub steps : new.steps ≡ old.steps + 1
+    pub found : new.found ≡ word
+    pub lanes : new.lanes ≡ old.lanes
+
+  -- what the desk knows of its edge with another place
+  abbrev pub known_edge : DeskView P I → ℕ → Kind → Side → Edge
+  known_edge d other k s = knows d.kept (edge_with d.kept.place other k s)
+
+  -- a look at this edge answered so: at most one message was taken out of the inbox and kept beside
+  -- its edge; the answer is what the edge then is by the message that is kept for it, or else as it
+  -- was known, and that message is kept no longer
+  pub record AnswersLook (other : ℕ) (k : Kind) (s : Side) (answer : Edge) (old new : DeskView P I)
+      : Type 0 where
+    pub lanes : List LaneView
+    pub receives : MayReceive old.places (known_edge old) old.lanes lanes
+    pub answers : answer ≡ told_by (known_edge old other k s)
+        (kept_at (lane_at old.places k other) s lanes)
+    pub forgets : new.lanes ≡ look_at (lane_at old.places k other) s lanes
 
 module _ {I : Type 0} where
   -- the records are those of all places, by number, with these parameters and lines

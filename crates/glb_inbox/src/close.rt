@@ -87,7 +87,8 @@ pub fn gather<P: Program, B: Bag<P>>(
     seat: &mut Slip<P::Item>,
     other: Slip<P::Item>,
 )
-    requires table { (seat.old.table_id ≡ words.now.table_id) × (other.table_id ≡ words.now.table_id) × (2 < words.now.table_id.words) }
+    requires table { (seat.old.table_id ≡ words.now.table_id)
+        × (other.table_id ≡ words.now.table_id) × (2 < words.now.table_id.words) }
     requires free { other.me.1 ≡ [] }
     ensures table { seat.new.table_id ≡ seat.old.table_id }
     ensures me { seat.new.me ≡ (seat.old.me.0 ++ other.me.0, seat.old.me.1) }

@@ -1,5 +1,5 @@
-//! How a message's seat is split off a place's, and joined, and how the seats of all places are made
-//! and gathered.
+//! How a message's seat is split off a place's, and joined, and how the seats of all places are
+//! made and gathered.
 use super::plays::Row;
 use super::view::Member;
 use atomic_table::{Join, Split};

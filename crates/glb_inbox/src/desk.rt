@@ -1,7 +1,14 @@
 //! A place's handle.
-ghost use Rattle.std.specs.Prelude.{◌≡◌};
+ghost use Rattle.std.specs.Prelude.{◌≡◌, ◌≢◌, ◌+◌, ◌≤◌, ◌==◌, true, false};
+ghost use Rattle.glb_laws.specs.Expansion.{Expands};
 ghost use Rattle.glb_core.specs.Counters.{counters_of};
-ghost use Rattle.glb_inbox.specs.Posts.{looks_of};
+ghost use Rattle.glb_rules.specs.declared.event.Event.TheVariants as event;
+ghost use Rattle.glb_rules.specs.declared.kinds.Phase.TheVariants as phases;
+ghost use Rattle.glb_place.specs.Records.{May};
+ghost use Rattle.glb_place.specs.Calls.{IsOwn, MayFind, Settles, edge_with, look_row};
+ghost use Rattle.glb_place.specs.Looks.{LooksAt, LooksAtLive, LooksAtStop, SameLooks};
+ghost use Rattle.glb_place.specs.Rows.{halted_row, over_row, sleep_row};
+ghost use Rattle.glb_inbox.specs.Posts.{AnswersLook, FindsWord, SameDesk, looks_of};
 
 use super::books::Books;
 use super::home::DeskHome;
@@ -29,7 +36,8 @@ impl<P: Program, B: Bag<P>> Model for Desk<P, B> {
     ghost use Rattle.std.specs.Prelude.{length};
     ghost use Rattle.std.specs.Arc.{arc_value};
     ghost use Rattle.glb_inbox.specs.Posts.{DeskView};
-    ghost use Rattle.glb_inbox.specs.inner.Desks.{IsDesk, desk_view};
+    ghost use Rattle.glb_inbox.specs.Viewing.{desk_view};
+    ghost use Rattle.glb_inbox.specs.inner.Desks.{IsDesk};
 
     ghost Value = { DeskView P P.Item };
 
@@ -51,9 +59,6 @@ impl<P: Program, B: Bag<P>> Desk<P, B> {
 }
 
 impl<P: Program, B: Bag<P>> Fabric<P, B> for Desk<P, B> {
-    ghost use Rattle.std.specs.Prelude.{true};
-    ghost use Rattle.glb_inbox.specs.Posts.{looks_of};
-
     type Home = DeskHome;
 
     ghost program = { λ d. d.program };
@@ -66,7 +71,21 @@ impl<P: Program, B: Bag<P>> Fabric<P, B> for Desk<P, B> {
 
     ghost looks = { looks_of };
 
-    fn settle(&mut self, _rt: &impl Wait, bag: &B, done: u64, gain: &P::Value) -> u64 {
+    /// Counts `done` items. The total of all places is what the step found, and these.
+    fn settle(&mut self, _rt: &impl Wait, bag: &B, done: u64, gain: &P::Value) -> u64
+        requires may { May self.old.kept (event.Batch self.old.kept.place) }
+        requires batch { (1 ≤ done) × (done ≤ self.old.kept.params.batch) }
+        requires last { self.old.kept.last ≤ self.old.kept.params.limit }
+        requires moves { Expands (P.children self.old.program) (P.value self.old.program)
+            P.Value.combine self.old.kept.local.bag P.Value.unit done (B.items bag.now) gain.now }
+        ensures kept { Settles (P.children self.old.program) (P.value self.old.program)
+            P.Value.unit P.Value.combine done (B.items bag.now) gain.now result self.old.kept
+            self.new.kept }
+        ensures same { SameDesk self.old self.new }
+        ensures looks { SameLooks (looks_of self.old) (looks_of self.new) }
+        ensures finds { FindsWord self.new.found self.old self.new }
+        ensures total { result ≡ self.new.found + done }
+    {
         let table: &WordTable<P, B, P::Item> = &self.words;
         moves::settle(&table.shared, &mut self.books, bag, done, gain)
     }
@@ -86,7 +105,17 @@ impl<P: Program, B: Bag<P>> Fabric<P, B> for Desk<P, B> {
         )
     }
 
-    fn look(&mut self, rt: &impl Wait, other: u32, kind: Kind, side: Side) -> Edge {
+    /// Takes at most one message out of the place's inbox, and keeps it beside its edge. The edge
+    /// asked for is then known by the message that is kept for it.
+    fn look(&mut self, rt: &impl Wait, other: u32, kind: Kind, side: Side) -> Edge
+        requires own { IsOwn self.old.kept other kind side }
+        ensures kept { self.new.kept ≡ look_row other kind side result self.old.kept }
+        ensures found { MayFind self.old.kept other kind side result }
+        ensures same { SameDesk self.old self.new }
+        ensures looks { LooksAt (edge_with self.old.kept.place other kind side)
+            (looks_of self.old) (looks_of self.new) }
+        ensures answers { AnswersLook other kind side result self.old self.new }
+    {
         let table: &WordTable<P, B, P::Item> = &self.words;
         let places = self.ways.len();
         looking::look(
@@ -153,12 +182,29 @@ impl<P: Program, B: Bag<P>> Fabric<P, B> for Desk<P, B> {
         true
     }
 
-    fn sleep(&mut self, _rt: &impl Wait) -> bool {
+    /// True exactly where live was 1 before the step.
+    fn sleep(&mut self, _rt: &impl Wait) -> bool
+        requires may { May self.old.kept (event.Sleep self.old.kept.place) }
+        ensures kept { self.new.kept ≡ sleep_row self.old.kept }
+        ensures same { SameDesk self.old self.new }
+        ensures looks { SameLooks (looks_of self.old) (looks_of self.new) }
+        ensures finds { FindsWord self.new.found self.old self.new }
+        ensures last { result ≡ (self.new.found == 1) }
+    {
         let table: &WordTable<P, B, P::Item> = &self.words;
         moves::sleep(&table.shared, &mut self.books) == 1
     }
 
-    fn over(&mut self, _rt: &impl Wait) -> bool {
+    /// True exactly where live reads 0. The place then leaves.
+    fn over(&mut self, _rt: &impl Wait) -> bool
+        requires here { self.old.kept.local.phase ≢ phases.Gone }
+        ensures over { result ≡ true → self.new.kept ≡ over_row self.old.kept }
+        ensures going { result ≡ false → self.new.kept ≡ self.old.kept }
+        ensures same { SameDesk self.old self.new }
+        ensures looks { LooksAtLive (looks_of self.old) (looks_of self.new) }
+        ensures finds { FindsWord self.new.found self.old self.new }
+        ensures none { result ≡ (self.new.found == 0) }
+    {
         let table: &WordTable<P, B, P::Item> = &self.words;
         moves::over(&table.shared, &mut self.books) == 0
     }
@@ -168,7 +214,15 @@ impl<P: Program, B: Bag<P>> Fabric<P, B> for Desk<P, B> {
         moves::halt(&table.shared, &mut self.books, code);
     }
 
-    fn halted(&mut self, _rt: &impl Wait) -> u64 {
+    /// The code that stop reads. Where it is not 0, the place leaves.
+    fn halted(&mut self, _rt: &impl Wait) -> u64
+        requires here { self.old.kept.local.phase ≢ phases.Gone }
+        ensures kept { self.new.kept ≡ halted_row result self.old.kept }
+        ensures least { self.old.kept.code ≤ result }
+        ensures same { SameDesk self.old self.new }
+        ensures looks { LooksAtStop (looks_of self.old) (looks_of self.new) }
+        ensures finds { FindsWord result self.old self.new }
+    {
         let table: &WordTable<P, B, P::Item> = &self.words;
         moves::halted(&table.shared, &mut self.books)
     }

@@ -48,7 +48,7 @@ pub fn is_awake<P: Program, B: Bag<P>>(bags: &[B], place: usize) -> bool
     bags[place].len() > 0
 }
 
-fn lane_of<P: Program, B: Bag<P>>(
+fn first_lane<P: Program, B: Bag<P>>(
     lines: &Lines,
     bags: &[B],
     place: u32,
@@ -90,7 +90,7 @@ fn add_lanes<P: Program, B: Bag<P>>(
         (range_with_len 0 lines.now.places)) }
 {
     for other in 0..lines.places() {
-        lanes.push(lane_of::<P, B>(lines, bags, place, kind, other))?;
+        lanes.push(first_lane::<P, B>(lines, bags, place, kind, other))?;
     }
     Ok(())
 }
@@ -155,9 +155,11 @@ pub fn way_to<P: Program, B: Bag<P>>(
     inboxes: &mut Vec<Way<P, B>>,
     place: usize,
 ) -> Result<Way<P, B>, NoMemory>
-    requires inboxes { AreWays words.now.table_id words.now.key.program.value words.now.key.lines.value.places inboxes.old.items }
+    requires inboxes { AreWays words.now.table_id words.now.key.program.value
+        words.now.key.lines.value.places inboxes.old.items }
     requires near { place < words.now.key.lines.value.places }
-    ensures inboxes { AreWays words.now.table_id words.now.key.program.value words.now.key.lines.value.places inboxes.new.items }
+    ensures inboxes { AreWays words.now.table_id words.now.key.program.value
+        words.now.key.lines.value.places inboxes.new.items }
     ensures way { IfOk result (λ w. w ≡ Some (tie words.now.key.program.value words.now.table_id)) }
 {
     let _ = words;
@@ -170,9 +172,13 @@ pub fn ways_to_all<P: Program, B: Bag<P>>(
     words: &Words<P, B, P::Item>,
     inboxes: &mut Vec<Way<P, B>>,
 ) -> Result<Vec<Way<P, B>>, NoMemory>
-    requires { AreWays words.now.table_id words.now.key.program.value words.now.key.lines.value.places inboxes.old.items }
-    ensures inboxes { AreWays words.now.table_id words.now.key.program.value words.now.key.lines.value.places inboxes.new.items }
-    ensures ways { IfOk result (λ v. AreWays words.now.table_id words.now.key.program.value words.now.key.lines.value.places v.items) }
+    requires { AreWays words.now.table_id words.now.key.program.value
+        words.now.key.lines.value.places inboxes.old.items }
+    ensures inboxes { AreWays words.now.table_id words.now.key.program.value
+        words.now.key.lines.value.places inboxes.new.items }
+    ensures ways { IfOk result
+        (λ v. AreWays words.now.table_id words.now.key.program.value
+        words.now.key.lines.value.places v.items) }
 {
     let mut ways = Vec::with_capacity(alloc, inboxes.len())?;
     for place in 0..inboxes.len() {

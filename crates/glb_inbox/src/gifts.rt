@@ -1,12 +1,14 @@
 //! Steps of a batch and of a gift, and messages that are taken back.
-ghost use Rattle.std.specs.Prelude.{◌≡◌, ℕ, ◌+◌, ◌^◌, ◌<◌, List, [], ◌∷◌, ◌++◌, length, IsPermutation};
+ghost use Rattle.std.specs.Prelude.{◌≡◌, ℕ, ◌+◌, ◌^◌, ◌<◌, List, [], ◌∷◌, ◌++◌, length};
+ghost use Rattle.std.specs.Prelude.{IsPermutation};
 ghost use Rattle.glb_place.specs.declared.record.Record.{Record};
 ghost use Rattle.glb_place.specs.Calls.{HasMore};
 ghost use Rattle.glb_place.specs.Rows.{give_row, batch_row};
 ghost use Rattle.glb_inbox.specs.declared.view.Member.TheVariants.{Parcel};
 ghost use Rattle.glb_inbox.specs.inner.Views.{on_one, stepped, spared, parted, undone, Reads};
 ghost use Rattle.glb_inbox.specs.inner.Plays.{bag_of};
-ghost use Rattle.glb_inbox.specs.inner.Acts.{Takes, MayBatch, MayGive, WasSent, WasGiven, Undoes, sender, sent};
+ghost use Rattle.glb_inbox.specs.inner.Acts.{Takes, MayBatch, MayGive, WasSent, WasGiven, Undoes};
+ghost use Rattle.glb_inbox.specs.inner.Acts.{sender, sent};
 
 use super::acts::Sent;
 use super::cuts::{Send, Sending, Undo};
@@ -24,16 +26,30 @@ fn settle_as<J: Batch<P::Item>, P: Program, B: Bag<P>>(
     gain: &P::Value,
 ) -> u64
     requires table { (seat.old.table_id ≡ words.now.table_id) × (2 < words.now.table_id.words) }
-    requires ready { Reads seat.old.me (λ x. MayBatch (P.children words.now.key.program.value) (P.value words.now.key.program.value) P.Value.unit P.Value.combine done (B.items bag.now) gain.now x.kept) }
+    requires ready { Reads seat.old.me
+        (λ x. MayBatch (P.children words.now.key.program.value)
+        (P.value words.now.key.program.value) P.Value.unit P.Value.combine done (B.items bag.now)
+        gain.now x.kept) }
     requires takes { (bag_before taken : List P.Item)
-        → (J.takes bag_before taken → Takes (P.children words.now.key.program.value) (P.value words.now.key.program.value) P.Value.unit P.Value.combine done (B.items bag.now) gain.now bag_before taken)
-        × (Takes (P.children words.now.key.program.value) (P.value words.now.key.program.value) P.Value.unit P.Value.combine done (B.items bag.now) gain.now bag_before taken → J.takes bag_before taken) }
+        → (J.takes bag_before taken
+        → Takes (P.children words.now.key.program.value) (P.value words.now.key.program.value)
+        P.Value.unit P.Value.combine done (B.items bag.now) gain.now bag_before taken)
+        × (Takes (P.children words.now.key.program.value) (P.value words.now.key.program.value)
+        P.Value.unit P.Value.combine done (B.items bag.now) gain.now bag_before taken
+        → J.takes bag_before taken) }
     requires leaves { J.leaves ≡ B.items bag.now }
     ensures table { (seat.new.table_id ≡ seat.old.table_id) × (seat.new.id ≡ seat.old.id) }
     ensures moved { (taken : List P.Item)
-        × Takes (P.children words.now.key.program.value) (P.value words.now.key.program.value) P.Value.unit P.Value.combine done (B.items bag.now) gain.now (bag_of seat.old.me.0) taken
+        × Takes (P.children words.now.key.program.value) (P.value words.now.key.program.value)
+        P.Value.unit P.Value.combine done (B.items bag.now) gain.now (bag_of seat.old.me.0)
+        taken
         × (result + done < 2 ^ 64)
-        × (seat.new.me ≡ (on_one (λ x. stepped (batch_row (result + done) taken (B.items bag.now) x.kept) result x) seat.old.me.0, seat.old.me.1)) }
+        × (seat.new.me ≡ (
+          on_one
+              (λ x. stepped (batch_row (result + done) taken (B.items bag.now) x.kept) result x)
+              seat.old.me.0,
+          seat.old.me.1,
+        )) }
 {
     let _bag = bag;
     let _gain = gain;
@@ -49,12 +65,22 @@ pub fn settle<P: Program, B: Bag<P>>(
     gain: &P::Value,
 ) -> u64
     requires table { (seat.old.table_id ≡ words.now.table_id) × (2 < words.now.table_id.words) }
-    requires ready { Reads seat.old.me (λ x. MayBatch (P.children words.now.key.program.value) (P.value words.now.key.program.value) P.Value.unit P.Value.combine done (B.items bag.now) gain.now x.kept) }
+    requires ready { Reads seat.old.me
+        (λ x. MayBatch (P.children words.now.key.program.value)
+        (P.value words.now.key.program.value) P.Value.unit P.Value.combine done (B.items bag.now)
+        gain.now x.kept) }
     ensures table { (seat.new.table_id ≡ seat.old.table_id) × (seat.new.id ≡ seat.old.id) }
     ensures moved { (taken : List P.Item)
-        × Takes (P.children words.now.key.program.value) (P.value words.now.key.program.value) P.Value.unit P.Value.combine done (B.items bag.now) gain.now (bag_of seat.old.me.0) taken
+        × Takes (P.children words.now.key.program.value) (P.value words.now.key.program.value)
+        P.Value.unit P.Value.combine done (B.items bag.now) gain.now (bag_of seat.old.me.0)
+        taken
         × (result + done < 2 ^ 64)
-        × (seat.new.me ≡ (on_one (λ x. stepped (batch_row (result + done) taken (B.items bag.now) x.kept) result x) seat.old.me.0, seat.old.me.1)) }
+        × (seat.new.me ≡ (
+          on_one
+              (λ x. stepped (batch_row (result + done) taken (B.items bag.now) x.kept) result x)
+              seat.old.me.0,
+          seat.old.me.1,
+        )) }
 {
     settle_as::<Brand, P, B>(words, seat, bag, done, gain)
 }
@@ -147,7 +173,8 @@ pub fn take_back<P: Program, B: Bag<P>>(
     slip: Slip<P::Item>,
     act: Sent,
 )
-    requires table { (seat.old.table_id ≡ words.now.table_id) × (slip.table_id ≡ words.now.table_id) × (2 < words.now.table_id.words) }
+    requires table { (seat.old.table_id ≡ words.now.table_id) × (slip.table_id ≡ words.now.table_id)
+        × (2 < words.now.table_id.words) }
     requires ready { Reads seat.old.me (Undoes (sender act) (WasSent act)) }
     requires slip { slip.me ≡ (sent act, []) }
     ensures table { (seat.new.table_id ≡ seat.old.table_id) × (seat.new.id ≡ seat.old.id) }
@@ -166,8 +193,11 @@ pub fn keep<P: Program, B: Bag<P>>(
     kind: Kind,
     part: &B,
 )
-    requires table { (seat.old.table_id ≡ words.now.table_id) × (slip.table_id ≡ words.now.table_id) × (2 < words.now.table_id.words) }
-    requires ready { (rest : List P.Item) × Reads seat.old.me (Undoes (give_row thief kind (B.items part.now) rest) (WasGiven thief kind (B.items part.now) rest)) }
+    requires table { (seat.old.table_id ≡ words.now.table_id) × (slip.table_id ≡ words.now.table_id)
+        × (2 < words.now.table_id.words) }
+    requires ready { (rest : List P.Item)
+        × Reads seat.old.me (Undoes (give_row thief kind (B.items part.now) rest)
+        (WasGiven thief kind (B.items part.now) rest)) }
     requires slip { slip.me ≡ (Parcel kind (B.items part.now) ∷ [], []) }
     ensures table { (seat.new.table_id ≡ seat.old.table_id) × (seat.new.id ≡ seat.old.id) }
     ensures moved { seat.new.me ≡ (on_one undone seat.old.me.0, seat.old.me.1) }

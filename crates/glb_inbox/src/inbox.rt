@@ -18,7 +18,8 @@ fn named<J: Room<P>, P: Program, B: Bag<P>>(
 )
     requires pass { IsSegPassOf inbox.now pass.old × (pass.old.me.view.client ≡ None) }
     requires tie { J.tie ≡ Some (tie program.now seat.now.table_id) }
-    ensures { IsSegPassOf inbox.now pass.new × (pass.new.me.view.client ≡ Some (tie program.now seat.now.table_id)) }
+    ensures { IsSegPassOf inbox.now pass.new
+        × (pass.new.me.view.client ≡ Some (tie program.now seat.now.table_id)) }
 {
     let _ = program;
     let _ = seat;
@@ -45,7 +46,9 @@ pub fn copy<P: Program, B: Bag<P>>(
     pass: &mut InboxPass<P, B, P::Item>,
 ) -> InboxPass<P, B, P::Item>
     requires { IsSegPassOf inbox.now pass.old × ((t : _) × (pass.old.me.view.client ≡ Some t)) }
-    ensures { IsSegPassOf inbox.now pass.new × IsSegPassOf inbox.now result × (pass.new.me.view.client ≡ pass.old.me.view.client) × (result.me.view.client ≡ pass.old.me.view.client) }
+    ensures { IsSegPassOf inbox.now pass.new × IsSegPassOf inbox.now result
+        × (pass.new.me.view.client ≡ pass.old.me.view.client)
+        × (result.me.view.client ≡ pass.old.me.view.client) }
 {
     inbox.another::<Same>(pass)
 }
@@ -58,7 +61,8 @@ pub fn send<P: Program, B: Bag<P>, R: Wait>(
 ) -> Result<(), Message<B, P::Item>>
     requires pass { IsSegPassOf inbox.now pass.old }
     requires good { IsGood B.items B.fits pass.old.me.view.client message }
-    ensures pass { IsSegPassOf inbox.now pass.new × (pass.new.me.view.client ≡ pass.old.me.view.client) }
+    ensures pass { IsSegPassOf inbox.now pass.new
+        × (pass.new.me.view.client ≡ pass.old.me.view.client) }
     ensures back { IfErr result (λ x. x ≡ message) }
 {
     inbox.push_as::<EachMessage<P>, R>(rt, pass, message)
@@ -70,7 +74,8 @@ pub fn receive<P: Program, B: Bag<P>, R: Wait>(
     pass: &mut InboxPass<P, B, P::Item>,
 ) -> Option<Message<B, P::Item>>
     requires { IsSegPassOf inbox.now pass.old × ((t : _) × (pass.old.me.view.client ≡ Some t)) }
-    ensures pass { IsSegPassOf inbox.now pass.new × (pass.new.me.view.client ≡ pass.old.me.view.client) }
+    ensures pass { IsSegPassOf inbox.now pass.new
+        × (pass.new.me.view.client ≡ pass.old.me.view.client) }
     ensures good { IfSome result (IsGood B.items B.fits pass.old.me.view.client) }
 {
     inbox.pop_as::<EachMessage<P>, R>(rt, pass)

@@ -1,5 +1,5 @@
-//! What a place keeps of its edges with another place: as they are known, and the messages that came
-//! over them and are not known yet, or not used up.
+//! What a place keeps of its edges with another place: as they are known, and the messages that
+//! came over them and are not known yet, or not used up.
 ghost use Rattle.std.specs.Prelude.{◌≡◌};
 ghost use Rattle.glb_inbox.specs.inner.Firsts.{lane_with};
 ghost use Rattle.glb_inbox.specs.inner.Lanes.{told};
@@ -18,7 +18,8 @@ pub struct Lane<B, I> {
     pub outward_looks: u64,
 }
 
-/// What came over an edge from its victim. A part that follows a lifeline's refusal takes its place.
+/// What came over an edge from its victim. A part that follows a lifeline's refusal takes its
+/// place.
 #[derive(Drop)]
 pub enum Answer<B, I> {
     Nothing,

@@ -8,7 +8,8 @@ ghost use Rattle.glb_place.specs.Calls.{Settles};
 ghost use Rattle.glb_place.specs.Looks.{raised};
 ghost use Rattle.glb_place.specs.Rows.{mint_row, burn_row, sleep_row, halt_row, halted_row};
 ghost use Rattle.glb_inbox.specs.inner.Acts.{MayBatch};
-ghost use Rattle.glb_inbox.specs.inner.Books.{AreBooks, BooksStay, kept_of, place_in};
+ghost use Rattle.glb_inbox.specs.Viewing.{kept_of, place_in};
+ghost use Rattle.glb_inbox.specs.inner.Books.{AreBooks, BooksStay};
 ghost use Rattle.glb_inbox.specs.inner.Plays.{ended_at};
 
 use super::books::Books;
@@ -25,12 +26,20 @@ pub fn settle<P: Program, B: Bag<P>>(
     done: u64,
     gain: &P::Value,
 ) -> u64
-    requires books { AreBooks B.items B.fits words.now.table_id words.now.key.program.value words.now.key.lines.value words.now.key.params books.old }
-    requires ready { MayBatch (P.children words.now.key.program.value) (P.value words.now.key.program.value) P.Value.unit P.Value.combine done (B.items bag.now) gain.now (kept_of books.old) }
-    ensures books { AreBooks B.items B.fits words.now.table_id words.now.key.program.value words.now.key.lines.value words.now.key.params books.new }
+    requires books { AreBooks B.items B.fits words.now.table_id words.now.key.program.value
+        words.now.key.lines.value words.now.key.params books.old }
+    requires ready { MayBatch (P.children words.now.key.program.value)
+        (P.value words.now.key.program.value) P.Value.unit P.Value.combine done (B.items bag.now)
+        gain.now (kept_of books.old) }
+    ensures books { AreBooks B.items B.fits words.now.table_id words.now.key.program.value
+        words.now.key.lines.value words.now.key.params books.new }
     ensures stay { BooksStay books.old books.new }
-    ensures kept { Settles (P.children words.now.key.program.value) (P.value words.now.key.program.value) P.Value.unit P.Value.combine done (B.items bag.now) gain.now result (kept_of books.old) (kept_of books.new) }
-    ensures steps { (place_in books.new.seat.me.0).steps ≡ (place_in books.old.seat.me.0).steps + 1 }
+    ensures lanes { books.new.lanes ≡ books.old.lanes }
+    ensures kept { Settles (P.children words.now.key.program.value)
+        (P.value words.now.key.program.value) P.Value.unit P.Value.combine done (B.items bag.now)
+        gain.now result (kept_of books.old) (kept_of books.new) }
+    ensures steps { (place_in books.new.seat.me.0).steps ≡ (place_in books.old.seat.me.0).steps
+        + 1 }
     ensures found { result ≡ (place_in books.new.seat.me.0).found + done }
 {
     let before = gifts::settle(words, &mut books.seat, bag, done, gain);
@@ -39,9 +48,11 @@ pub fn settle<P: Program, B: Bag<P>>(
 }
 
 pub fn mint<P: Program, B: Bag<P>>(words: &Words<P, B, P::Item>, books: &mut Books<B, P::Item>)
-    requires books { AreBooks B.items B.fits words.now.table_id words.now.key.program.value words.now.key.lines.value words.now.key.params books.old }
+    requires books { AreBooks B.items B.fits words.now.table_id words.now.key.program.value
+        words.now.key.lines.value words.now.key.params books.old }
     requires ready { May (kept_of books.old) (event.Mint (kept_of books.old).place) }
-    ensures books { AreBooks B.items B.fits words.now.table_id words.now.key.program.value words.now.key.lines.value words.now.key.params books.new }
+    ensures books { AreBooks B.items B.fits words.now.table_id words.now.key.program.value
+        words.now.key.lines.value words.now.key.params books.new }
     ensures stay { BooksStay books.old books.new }
     ensures kept { kept_of books.new ≡ mint_row (kept_of books.old) }
 {
@@ -49,9 +60,11 @@ pub fn mint<P: Program, B: Bag<P>>(words: &Words<P, B, P::Item>, books: &mut Boo
 }
 
 pub fn burn<P: Program, B: Bag<P>>(words: &Words<P, B, P::Item>, books: &mut Books<B, P::Item>)
-    requires books { AreBooks B.items B.fits words.now.table_id words.now.key.program.value words.now.key.lines.value words.now.key.params books.old }
+    requires books { AreBooks B.items B.fits words.now.table_id words.now.key.program.value
+        words.now.key.lines.value words.now.key.params books.old }
     requires ready { May (kept_of books.old) (event.Burn (kept_of books.old).place) }
-    ensures books { AreBooks B.items B.fits words.now.table_id words.now.key.program.value words.now.key.lines.value words.now.key.params books.new }
+    ensures books { AreBooks B.items B.fits words.now.table_id words.now.key.program.value
+        words.now.key.lines.value words.now.key.params books.new }
     ensures stay { BooksStay books.old books.new }
     ensures kept { kept_of books.new ≡ burn_row (kept_of books.old) }
 {
@@ -63,12 +76,16 @@ pub fn sleep<P: Program, B: Bag<P>>(
     words: &Words<P, B, P::Item>,
     books: &mut Books<B, P::Item>,
 ) -> u64
-    requires books { AreBooks B.items B.fits words.now.table_id words.now.key.program.value words.now.key.lines.value words.now.key.params books.old }
+    requires books { AreBooks B.items B.fits words.now.table_id words.now.key.program.value
+        words.now.key.lines.value words.now.key.params books.old }
     requires ready { May (kept_of books.old) (event.Sleep (kept_of books.old).place) }
-    ensures books { AreBooks B.items B.fits words.now.table_id words.now.key.program.value words.now.key.lines.value words.now.key.params books.new }
+    ensures books { AreBooks B.items B.fits words.now.table_id words.now.key.program.value
+        words.now.key.lines.value words.now.key.params books.new }
     ensures stay { BooksStay books.old books.new }
+    ensures lanes { books.new.lanes ≡ books.old.lanes }
     ensures kept { kept_of books.new ≡ sleep_row (kept_of books.old) }
-    ensures steps { (place_in books.new.seat.me.0).steps ≡ (place_in books.old.seat.me.0).steps + 1 }
+    ensures steps { (place_in books.new.seat.me.0).steps ≡ (place_in books.old.seat.me.0).steps
+        + 1 }
     ensures found { result ≡ (place_in books.new.seat.me.0).found }
 {
     let live = steps::sleep(words, &mut books.seat);
@@ -82,15 +99,18 @@ pub fn over<P: Program, B: Bag<P>>(
     words: &Words<P, B, P::Item>,
     books: &mut Books<B, P::Item>,
 ) -> u64
-    requires books { AreBooks B.items B.fits words.now.table_id words.now.key.program.value words.now.key.lines.value words.now.key.params books.old }
+    requires books { AreBooks B.items B.fits words.now.table_id words.now.key.program.value
+        words.now.key.lines.value words.now.key.params books.old }
     requires ready { (kept_of books.old).local.phase ≢ phase.Gone }
-    ensures books { AreBooks B.items B.fits words.now.table_id words.now.key.program.value words.now.key.lines.value words.now.key.params books.new }
+    ensures books { AreBooks B.items B.fits words.now.table_id words.now.key.program.value
+        words.now.key.lines.value words.now.key.params books.new }
     ensures place { books.new.place ≡ books.old.place }
     ensures lanes { books.new.lanes ≡ books.old.lanes }
     ensures live { books.new.live_looks ≡ raised books.old.live_looks }
     ensures stop { books.new.stop_looks ≡ books.old.stop_looks }
     ensures kept { kept_of books.new ≡ ended_at result (kept_of books.old) }
-    ensures steps { (place_in books.new.seat.me.0).steps ≡ (place_in books.old.seat.me.0).steps + 1 }
+    ensures steps { (place_in books.new.seat.me.0).steps ≡ (place_in books.old.seat.me.0).steps
+        + 1 }
     ensures found { result ≡ (place_in books.new.seat.me.0).found }
 {
     let live = steps::over(words, &mut books.seat);
@@ -105,11 +125,13 @@ pub fn halt<P: Program, B: Bag<P>>(
     books: &mut Books<B, P::Item>,
     code: u64,
 )
-    requires books { AreBooks B.items B.fits words.now.table_id words.now.key.program.value words.now.key.lines.value words.now.key.params books.old }
+    requires books { AreBooks B.items B.fits words.now.table_id words.now.key.program.value
+        words.now.key.lines.value words.now.key.params books.old }
     requires here { (kept_of books.old).local.phase ≢ phase.Gone }
     requires code { (code ≡ 1) ⊎ (code ≡ 2) }
     requires cause { code ≡ 1 → (kept_of books.old).params.limit < (kept_of books.old).last }
-    ensures books { AreBooks B.items B.fits words.now.table_id words.now.key.program.value words.now.key.lines.value words.now.key.params books.new }
+    ensures books { AreBooks B.items B.fits words.now.table_id words.now.key.program.value
+        words.now.key.lines.value words.now.key.params books.new }
     ensures stay { BooksStay books.old books.new }
     ensures kept { kept_of books.new ≡ halt_row code (kept_of books.old) }
 {
@@ -121,16 +143,19 @@ pub fn halted<P: Program, B: Bag<P>>(
     words: &Words<P, B, P::Item>,
     books: &mut Books<B, P::Item>,
 ) -> u64
-    requires books { AreBooks B.items B.fits words.now.table_id words.now.key.program.value words.now.key.lines.value words.now.key.params books.old }
+    requires books { AreBooks B.items B.fits words.now.table_id words.now.key.program.value
+        words.now.key.lines.value words.now.key.params books.old }
     requires ready { (kept_of books.old).local.phase ≢ phase.Gone }
-    ensures books { AreBooks B.items B.fits words.now.table_id words.now.key.program.value words.now.key.lines.value words.now.key.params books.new }
+    ensures books { AreBooks B.items B.fits words.now.table_id words.now.key.program.value
+        words.now.key.lines.value words.now.key.params books.new }
     ensures place { books.new.place ≡ books.old.place }
     ensures lanes { books.new.lanes ≡ books.old.lanes }
     ensures live { books.new.live_looks ≡ books.old.live_looks }
     ensures stop { books.new.stop_looks ≡ raised books.old.stop_looks }
     ensures kept { kept_of books.new ≡ halted_row result (kept_of books.old) }
     ensures least { (kept_of books.old).code ≤ result }
-    ensures steps { (place_in books.new.seat.me.0).steps ≡ (place_in books.old.seat.me.0).steps + 1 }
+    ensures steps { (place_in books.new.seat.me.0).steps ≡ (place_in books.old.seat.me.0).steps
+        + 1 }
     ensures found { result ≡ (place_in books.new.seat.me.0).found }
 {
     let code = steps::halted(words, &mut books.seat);

@@ -40,8 +40,10 @@ pub fn deal<P: Program, B: Bag<P>>(
 ) -> Slip<P::Item>
     requires table { (dealer.old.table_id ≡ words.now.table_id) × (0 < words.now.table_id.words) }
     requires some { (x : _) × (xs : _) × (dealer.old.me.0 ≡ x ∷ xs) }
-    ensures table { (dealer.new.table_id ≡ dealer.old.table_id) × (result.table_id ≡ dealer.old.table_id) }
-    ensures dealt { (x : _) × (xs : _) × (dealer.old.me.0 ≡ x ∷ xs) × (dealer.new.me ≡ (xs, dealer.old.me.1)) × (result.me ≡ (x ∷ [], [])) }
+    ensures table { (dealer.new.table_id ≡ dealer.old.table_id)
+        × (result.table_id ≡ dealer.old.table_id) }
+    ensures dealt { (x : _) × (xs : _) × (dealer.old.me.0 ≡ x ∷ xs)
+        × (dealer.new.me ≡ (xs, dealer.old.me.1)) × (result.me ≡ (x ∷ [], [])) }
 {
     words.split_seat::<Deal>(dealer)
 }

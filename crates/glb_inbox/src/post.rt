@@ -6,11 +6,16 @@ ghost use Rattle.glb_rules.specs.Setups.{IsWithinLimits};
 ghost use Rattle.glb_place.specs.Close.{Closes};
 ghost use Rattle.glb_place.specs.Records.{IsFirst};
 ghost use Rattle.glb_inbox.specs.declared.view.Seated.{Seated};
-ghost use Rattle.glb_inbox.specs.Posts.{AreDesksOf, AreFirstDesks, AreNumbered, DeskView, roots_at, setup_at};
-ghost use Rattle.glb_inbox.specs.inner.Begins.{bag_lists, bags_of, first_seat, first_members, job_of};
-ghost use Rattle.glb_inbox.specs.inner.Books.{AreWays, kept_of};
+ghost use Rattle.glb_inbox.specs.Posts.{AreDesksOf, AreFirstDesks, AreNumbered, DeskView, roots_at};
+ghost use Rattle.glb_inbox.specs.Posts.{setup_at};
+ghost use Rattle.glb_inbox.specs.Viewing.{bag_lists};
+ghost use Rattle.glb_inbox.specs.inner.Begins.{bags_of, first_seat, first_members};
+ghost use Rattle.glb_inbox.specs.inner.Begins.{job_of};
+ghost use Rattle.glb_inbox.specs.Viewing.{kept_of};
+ghost use Rattle.glb_inbox.specs.inner.Books.{AreWays};
 ghost use Rattle.glb_inbox.specs.inner.Close.{as_places, kept_of as place_kept};
-ghost use Rattle.glb_inbox.specs.inner.Desks.{IsBegun, IsDesk, desk_view};
+ghost use Rattle.glb_inbox.specs.Viewing.{desk_view};
+ghost use Rattle.glb_inbox.specs.inner.Desks.{IsBegun, IsDesk};
 ghost use Rattle.glb_inbox.specs.inner.Views.{one};
 
 use super::books::Books;
@@ -37,11 +42,12 @@ pub struct Post<P: Program, B: Bag<P>> {
 impl<P: Program, B: Bag<P>> Model for Post<P, B> {
     ghost use Rattle.std.specs.Arc.{arc_value};
     ghost use Rattle.glb_inbox.specs.Posts.{PostView};
-    ghost use Rattle.glb_inbox.specs.inner.Desks.{IsPost, post_view};
+    ghost use Rattle.glb_inbox.specs.Viewing.{post_view};
+    ghost use Rattle.glb_inbox.specs.inner.Desks.{IsPost};
 
     ghost Value = { PostView P P.Item };
 
-    ghost view = { λ p. post_view P.children B.items (arc_value p.words).shared.table_id
+    ghost view = { λ p. post_view B.items (arc_value p.words).shared.table_id
         (arc_value p.words).shared.key };
 
     ghost invariant = { λ p. IsPost (arc_value p.words).shared.table_id
@@ -61,20 +67,23 @@ fn first_parts<P: Program, B: Bag<P>>(
 ) -> Result<(Books<B, P::Item>, Way<P, B>, Vec<Way<P, B>>), NoMemory>
     requires words { 2 < words.now.table_id.words }
     requires lines { words.now.key.lines.value ≡ lines.now }
-    requires bags { map B.items bags.now ≡ bag_lists P.children B.items words.now.key.bags.items }
+    requires bags { map B.items bags.now ≡ bag_lists B.items words.now.key.bags.items }
     requires many { length bags.now ≡ lines.now.places }
     requires limits { IsWithinLimits words.now.key.params }
     requires places { words.now.key.lines.value.places ≡ words.now.key.params.places }
     requires near { place < lines.now.places }
-    requires inboxes { AreWays words.now.table_id words.now.key.program.value words.now.key.lines.value.places inboxes.old.items }
+    requires inboxes { AreWays words.now.table_id words.now.key.program.value
+        words.now.key.lines.value.places inboxes.old.items }
     requires seat { (seat.table_id ≡ words.now.table_id)
         × (seat.me ≡ (
           one (first_seat (job_of P.children B.items words.now.key)
               (bags_of P.children B.items words.now.key) place),
           [],
         )) }
-    ensures inboxes { AreWays words.now.table_id words.now.key.program.value words.now.key.lines.value.places inboxes.new.items }
-    ensures desk { IfOk result (λ r. IsDesk B.items B.fits words.now.table_id words.now.key.program.value
+    ensures inboxes { AreWays words.now.table_id words.now.key.program.value
+        words.now.key.lines.value.places inboxes.new.items }
+    ensures desk { IfOk result
+        (λ r. IsDesk B.items B.fits words.now.table_id words.now.key.program.value
         words.now.key.lines.value words.now.key.params r.0 r.1 r.2.items) }
     ensures place { IfOk result (λ r. r.0.place ≡ place) }
     ensures kept { IfOk result (λ r. IsFirst words.now.key.lines.value words.now.key.params place
@@ -132,12 +141,15 @@ fn first_desk<P: Program, B: Bag<P>>(
 ) -> Result<Desk<P, B>, NoMemory>
     requires words { 2 < (arc_value words.now).shared.table_id.words }
     requires lines { (arc_value words.now).shared.key.lines.value ≡ lines.now }
-    requires bags { map B.items bags.now ≡ bag_lists P.children B.items (arc_value words.now).shared.key.bags.items }
+    requires bags { map B.items bags.now ≡ bag_lists B.items
+        (arc_value words.now).shared.key.bags.items }
     requires many { length bags.now ≡ lines.now.places }
     requires limits { IsWithinLimits (arc_value words.now).shared.key.params }
-    requires places { (arc_value words.now).shared.key.lines.value.places ≡ (arc_value words.now).shared.key.params.places }
+    requires places { (arc_value words.now).shared.key.lines.value.places
+        ≡ (arc_value words.now).shared.key.params.places }
     requires near { place < lines.now.places }
-    requires inboxes { AreWays (arc_value words.now).shared.table_id (arc_value words.now).shared.key.program.value
+    requires inboxes { AreWays (arc_value words.now).shared.table_id
+        (arc_value words.now).shared.key.program.value
         (arc_value words.now).shared.key.lines.value.places inboxes.old.items }
     requires seat { (seat.table_id ≡ (arc_value words.now).shared.table_id)
         × (seat.me ≡ (
@@ -145,7 +157,8 @@ fn first_desk<P: Program, B: Bag<P>>(
               (bags_of P.children B.items (arc_value words.now).shared.key) place),
           [],
         )) }
-    ensures inboxes { AreWays (arc_value words.now).shared.table_id (arc_value words.now).shared.key.program.value
+    ensures inboxes { AreWays (arc_value words.now).shared.table_id
+        (arc_value words.now).shared.key.program.value
         (arc_value words.now).shared.key.lines.value.places inboxes.new.items }
     ensures begun { IfOk result (IsBegun P.children B.items (arc_value words.now).shared.table_id
         (arc_value words.now).shared.key place) }
@@ -174,11 +187,14 @@ fn first_desks<P: Program, B: Bag<P>>(
 ) -> Result<Vec<Desk<P, B>>, NoMemory>
     requires words { 2 < (arc_value words.now).shared.table_id.words }
     requires lines { (arc_value words.now).shared.key.lines.value ≡ lines.now }
-    requires bags { map B.items bags.now ≡ bag_lists P.children B.items (arc_value words.now).shared.key.bags.items }
+    requires bags { map B.items bags.now ≡ bag_lists B.items
+        (arc_value words.now).shared.key.bags.items }
     requires many { length bags.now ≡ lines.now.places }
     requires limits { IsWithinLimits (arc_value words.now).shared.key.params }
-    requires places { (arc_value words.now).shared.key.lines.value.places ≡ (arc_value words.now).shared.key.params.places }
-    requires inboxes { AreWays (arc_value words.now).shared.table_id (arc_value words.now).shared.key.program.value
+    requires places { (arc_value words.now).shared.key.lines.value.places
+        ≡ (arc_value words.now).shared.key.params.places }
+    requires inboxes { AreWays (arc_value words.now).shared.table_id
+        (arc_value words.now).shared.key.program.value
         (arc_value words.now).shared.key.lines.value.places inboxes.items }
     requires dealer { (dealer.table_id ≡ (arc_value words.now).shared.table_id)
         × (dealer.me ≡ (first_members P.children B.items (arc_value words.now).shared.key, [])) }

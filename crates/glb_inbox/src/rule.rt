@@ -1,5 +1,5 @@
-//! The table of three words: the number live, the total of items, and the stop code. Its rule speaks
-//! of the views of all seats together.
+//! The table of three words: the number live, the total of items, and the stop code. Its rule
+//! speaks of the views of all seats together.
 use super::view::Member;
 use atomic_table::{Seat, Shared, Table, TableRule};
 use glb_core::Params;

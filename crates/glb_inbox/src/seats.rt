@@ -1,9 +1,11 @@
-//! Steps that move the record alone, and seats of requests and refusals that are split off and joined.
+//! Steps that move the record alone, and seats of requests and refusals that are split off and
+//! joined.
 ghost use Rattle.std.specs.Prelude.{◌≡◌, ◌<◌, List, []};
 ghost use Rattle.glb_place.specs.declared.record.Record.{Record};
 ghost use Rattle.glb_inbox.specs.declared.view.Member.{Member};
 ghost use Rattle.glb_inbox.specs.inner.Views.{on_one, stepped, parted, joined, Reads};
-ghost use Rattle.glb_inbox.specs.inner.Acts.{noted, MayNote, sender, sent, MaySend, got, Carries, MayGet};
+ghost use Rattle.glb_inbox.specs.inner.Acts.{noted, MayNote, sender, sent, MaySend, got, Carries};
+ghost use Rattle.glb_inbox.specs.inner.Acts.{MayGet};
 
 use super::acts::{Got, Noted, Sent};
 use super::cuts::{Receive, Send, Sending};
@@ -21,7 +23,10 @@ fn note_as<J: Row<P::Item>, P: Program, B: Bag<P>>(
     requires ready { Reads seat.old.me (λ x. MayNote act x.kept) }
     requires row { J.becomes ≡ (λ (w : List (Member P.Item)) (r : Record P.Item). noted act r) }
     ensures table { (seat.new.table_id ≡ seat.old.table_id) × (seat.new.id ≡ seat.old.id) }
-    ensures moved { seat.new.me ≡ (on_one (λ x. stepped (noted act x.kept) result x) seat.old.me.0, seat.old.me.1) }
+    ensures moved { seat.new.me ≡ (
+      on_one (λ x. stepped (noted act x.kept) result x) seat.old.me.0,
+      seat.old.me.1,
+    ) }
 {
     let _ = act;
     words.load::<Note<J>>(seat, 2)
@@ -36,7 +41,10 @@ pub fn note<P: Program, B: Bag<P>>(
     requires table { (seat.old.table_id ≡ words.now.table_id) × (2 < words.now.table_id.words) }
     requires ready { Reads seat.old.me (λ x. MayNote act x.kept) }
     ensures table { (seat.new.table_id ≡ seat.old.table_id) × (seat.new.id ≡ seat.old.id) }
-    ensures moved { seat.new.me ≡ (on_one (λ x. stepped (noted act x.kept) result x) seat.old.me.0, seat.old.me.1) }
+    ensures moved { seat.new.me ≡ (
+      on_one (λ x. stepped (noted act x.kept) result x) seat.old.me.0,
+      seat.old.me.1,
+    ) }
 {
     note_as::<Brand, P, B>(words, seat, act)
 }
@@ -50,8 +58,12 @@ fn send_as<J: Sending<P::Item>, P: Program, B: Bag<P>>(
     requires ready { Reads seat.old.me (λ x. MaySend act x.kept) }
     requires row { (J.sender ≡ (λ (rest : List P.Item) (r : Record P.Item). sender act r))
         × (J.sent ≡ sent act) }
-    ensures table { (seat.new.table_id ≡ seat.old.table_id) × (seat.new.id ≡ seat.old.id) × (result.table_id ≡ seat.old.table_id) }
-    ensures moved { seat.new.me ≡ (on_one (λ x. parted (sender act x.kept) x) seat.old.me.0, seat.old.me.1) }
+    ensures table { (seat.new.table_id ≡ seat.old.table_id) × (seat.new.id ≡ seat.old.id)
+        × (result.table_id ≡ seat.old.table_id) }
+    ensures moved { seat.new.me ≡ (
+      on_one (λ x. parted (sender act x.kept) x) seat.old.me.0,
+      seat.old.me.1,
+    ) }
     ensures slip { result.me ≡ (sent act, []) }
 {
     let _ = act;
@@ -66,8 +78,12 @@ pub fn send<P: Program, B: Bag<P>>(
 ) -> Slip<P::Item>
     requires table { (seat.old.table_id ≡ words.now.table_id) × (2 < words.now.table_id.words) }
     requires ready { Reads seat.old.me (λ x. MaySend act x.kept) }
-    ensures table { (seat.new.table_id ≡ seat.old.table_id) × (seat.new.id ≡ seat.old.id) × (result.table_id ≡ seat.old.table_id) }
-    ensures moved { seat.new.me ≡ (on_one (λ x. parted (sender act x.kept) x) seat.old.me.0, seat.old.me.1) }
+    ensures table { (seat.new.table_id ≡ seat.old.table_id) × (seat.new.id ≡ seat.old.id)
+        × (result.table_id ≡ seat.old.table_id) }
+    ensures moved { seat.new.me ≡ (
+      on_one (λ x. parted (sender act x.kept) x) seat.old.me.0,
+      seat.old.me.1,
+    ) }
     ensures slip { result.me ≡ (sent act, []) }
 {
     send_as::<Brand, P, B>(words, seat, act)
@@ -79,12 +95,16 @@ fn get_as<J: Row<P::Item>, P: Program, B: Bag<P>>(
     slip: Slip<P::Item>,
     act: Got,
 )
-    requires table { (seat.old.table_id ≡ words.now.table_id) × (slip.table_id ≡ words.now.table_id) × (2 < words.now.table_id.words) }
+    requires table { (seat.old.table_id ≡ words.now.table_id) × (slip.table_id ≡ words.now.table_id)
+        × (2 < words.now.table_id.words) }
     requires ready { Reads seat.old.me (λ x. MayGet act x.kept) }
     requires slip { (slip.me.1 ≡ []) × Carries act slip.me.0 }
     requires row { J.becomes ≡ got act }
     ensures table { (seat.new.table_id ≡ seat.old.table_id) × (seat.new.id ≡ seat.old.id) }
-    ensures moved { seat.new.me ≡ (on_one (λ x. joined (got act slip.me.0 x.kept) x) seat.old.me.0, seat.old.me.1) }
+    ensures moved { seat.new.me ≡ (
+      on_one (λ x. joined (got act slip.me.0 x.kept) x) seat.old.me.0,
+      seat.old.me.1,
+    ) }
 {
     let _ = act;
     words.join_seat::<Receive<J>>(seat, slip);
@@ -97,11 +117,15 @@ pub fn get<P: Program, B: Bag<P>>(
     slip: Slip<P::Item>,
     act: Got,
 )
-    requires table { (seat.old.table_id ≡ words.now.table_id) × (slip.table_id ≡ words.now.table_id) × (2 < words.now.table_id.words) }
+    requires table { (seat.old.table_id ≡ words.now.table_id) × (slip.table_id ≡ words.now.table_id)
+        × (2 < words.now.table_id.words) }
     requires ready { Reads seat.old.me (λ x. MayGet act x.kept) }
     requires slip { (slip.me.1 ≡ []) × Carries act slip.me.0 }
     ensures table { (seat.new.table_id ≡ seat.old.table_id) × (seat.new.id ≡ seat.old.id) }
-    ensures moved { seat.new.me ≡ (on_one (λ x. joined (got act slip.me.0 x.kept) x) seat.old.me.0, seat.old.me.1) }
+    ensures moved { seat.new.me ≡ (
+      on_one (λ x. joined (got act slip.me.0 x.kept) x) seat.old.me.0,
+      seat.old.me.1,
+    ) }
 {
     get_as::<Brand, P, B>(words, seat, slip, act);
 }

@@ -1,5 +1,5 @@
-//! Sending: a message's seat is split off and the message pushed. Where there is no memory for it the
-//! seat is joined again, and the record is the one before.
+//! Sending: a message's seat is split off and the message pushed. Where there is no memory for it
+//! the seat is joined again, and the record is the one before.
 ghost use Rattle.std.specs.Prelude.{◌≡◌, ◌<◌, length, IfErr, OnOk, OnErr, Some};
 ghost use Rattle.glb_rules.specs.declared.event.Event.TheVariants as event;
 ghost use Rattle.glb_rules.specs.declared.kinds.Kind.TheVariants as kinds;

@@ -8,7 +8,8 @@ ghost use Rattle.glb_place.specs.Records.{May};
 ghost use Rattle.glb_place.specs.Calls.{Gives};
 ghost use Rattle.glb_place.specs.Rows.{ask_row, deny_row, give_row, shrug_row, take_row};
 ghost use Rattle.glb_inbox.specs.inner.Acts.{MayOffer};
-ghost use Rattle.glb_inbox.specs.inner.Books.{AreBooks, BooksStay, kept_of};
+ghost use Rattle.glb_inbox.specs.Viewing.{kept_of};
+ghost use Rattle.glb_inbox.specs.inner.Books.{AreBooks, BooksStay};
 ghost use Rattle.glb_inbox.specs.inner.Posted.{tie};
 
 use super::acts::{Got, Noted};
@@ -30,11 +31,13 @@ pub fn ask<P: Program, B: Bag<P>, R: Wait>(
     victim: u32,
     kind: Kind,
 ) -> Result<(), NoMemory>
-    requires books { AreBooks B.items B.fits words.now.table_id words.now.key.program.value words.now.key.lines.value words.now.key.params books.old }
+    requires books { AreBooks B.items B.fits words.now.table_id words.now.key.program.value
+        words.now.key.lines.value words.now.key.params books.old }
     requires places { places ≡ words.now.key.lines.value.places }
     requires tied { way.old ≡ Some (tie words.now.key.program.value words.now.table_id) }
     requires ready { May (kept_of books.old) (event.Ask (kept_of books.old).place victim kind) }
-    ensures books { AreBooks B.items B.fits words.now.table_id words.now.key.program.value words.now.key.lines.value words.now.key.params books.new }
+    ensures books { AreBooks B.items B.fits words.now.table_id words.now.key.program.value
+        words.now.key.lines.value words.now.key.params books.new }
     ensures stay { BooksStay books.old books.new }
     ensures way { way.new ≡ way.old }
     ensures kept { OnOk result (kept_of books.new ≡ ask_row victim kind (kept_of books.old)) }
@@ -56,11 +59,13 @@ pub fn deny<P: Program, B: Bag<P>, R: Wait>(
     thief: u32,
     kind: Kind,
 ) -> Result<(), NoMemory>
-    requires books { AreBooks B.items B.fits words.now.table_id words.now.key.program.value words.now.key.lines.value words.now.key.params books.old }
+    requires books { AreBooks B.items B.fits words.now.table_id words.now.key.program.value
+        words.now.key.lines.value words.now.key.params books.old }
     requires places { places ≡ words.now.key.lines.value.places }
     requires tied { way.old ≡ Some (tie words.now.key.program.value words.now.table_id) }
     requires ready { May (kept_of books.old) (event.Deny (kept_of books.old).place thief kind) }
-    ensures books { AreBooks B.items B.fits words.now.table_id words.now.key.program.value words.now.key.lines.value words.now.key.params books.new }
+    ensures books { AreBooks B.items B.fits words.now.table_id words.now.key.program.value
+        words.now.key.lines.value words.now.key.params books.new }
     ensures stay { BooksStay books.old books.new }
     ensures way { way.new ≡ way.old }
     ensures kept { OnOk result (kept_of books.new ≡ deny_row thief kind (kept_of books.old)) }
@@ -84,15 +89,18 @@ pub fn give<P: Program, B: Bag<P>, R: Wait>(
     kind: Kind,
     part: B,
 ) -> Result<(), (NoMemory, B)>
-    requires books { AreBooks B.items B.fits words.now.table_id words.now.key.program.value words.now.key.lines.value words.now.key.params books.old }
+    requires books { AreBooks B.items B.fits words.now.table_id words.now.key.program.value
+        words.now.key.lines.value words.now.key.params books.old }
     requires places { places ≡ words.now.key.lines.value.places }
     requires tied { way.old ≡ Some (tie words.now.key.program.value words.now.table_id) }
     requires ready { MayOffer thief kind (B.items part) (kept_of books.old) }
     requires fits { B.fits part words.now.key.program.value }
-    ensures books { AreBooks B.items B.fits words.now.table_id words.now.key.program.value words.now.key.lines.value words.now.key.params books.new }
+    ensures books { AreBooks B.items B.fits words.now.table_id words.now.key.program.value
+        words.now.key.lines.value words.now.key.params books.new }
     ensures stay { BooksStay books.old books.new }
     ensures way { way.new ≡ way.old }
-    ensures kept { OnOk result (Gives (give_row thief kind) (B.items part) (kept_of books.old) (kept_of books.new)) }
+    ensures kept { OnOk result
+        (Gives (give_row thief kind) (B.items part) (kept_of books.old) (kept_of books.new)) }
     ensures refused { OnErr result (kept_of books.new ≡ kept_of books.old) }
     ensures back { IfErr result (λ e. e.1 ≡ part) }
 {
@@ -122,10 +130,12 @@ pub fn take<P: Program, B: Bag<P>>(
     victim: u32,
     kind: Kind,
 ) -> B
-    requires books { AreBooks B.items B.fits words.now.table_id words.now.key.program.value words.now.key.lines.value words.now.key.params books.old }
+    requires books { AreBooks B.items B.fits words.now.table_id words.now.key.program.value
+        words.now.key.lines.value words.now.key.params books.old }
     requires places { places ≡ words.now.key.lines.value.places }
     requires ready { May (kept_of books.old) (event.Take (kept_of books.old).place victim kind) }
-    ensures books { AreBooks B.items B.fits words.now.table_id words.now.key.program.value words.now.key.lines.value words.now.key.params books.new }
+    ensures books { AreBooks B.items B.fits words.now.table_id words.now.key.program.value
+        words.now.key.lines.value words.now.key.params books.new }
     ensures stay { BooksStay books.old books.new }
     ensures kept { kept_of books.new ≡ take_row victim kind (B.items result)
         (B.items result ++ (kept_of books.old).local.bag) (kept_of books.old) }
@@ -147,10 +157,13 @@ fn shrug_steal<P: Program, B: Bag<P>>(
     places: usize,
     victim: u32,
 )
-    requires books { AreBooks B.items B.fits words.now.table_id words.now.key.program.value words.now.key.lines.value words.now.key.params books.old }
+    requires books { AreBooks B.items B.fits words.now.table_id words.now.key.program.value
+        words.now.key.lines.value words.now.key.params books.old }
     requires places { places ≡ words.now.key.lines.value.places }
-    requires ready { May (kept_of books.old) (event.Shrug (kept_of books.old).place victim kinds.Steal) }
-    ensures books { AreBooks B.items B.fits words.now.table_id words.now.key.program.value words.now.key.lines.value words.now.key.params books.new }
+    requires ready { May (kept_of books.old)
+        (event.Shrug (kept_of books.old).place victim kinds.Steal) }
+    ensures books { AreBooks B.items B.fits words.now.table_id words.now.key.program.value
+        words.now.key.lines.value words.now.key.params books.new }
     ensures stay { BooksStay books.old books.new }
     ensures kept { kept_of books.new ≡ shrug_row victim kinds.Steal (kept_of books.old) }
 {
@@ -165,9 +178,12 @@ fn shrug_line<P: Program, B: Bag<P>>(
     books: &mut Books<B, P::Item>,
     victim: u32,
 )
-    requires books { AreBooks B.items B.fits words.now.table_id words.now.key.program.value words.now.key.lines.value words.now.key.params books.old }
-    requires ready { May (kept_of books.old) (event.Shrug (kept_of books.old).place victim kinds.Line) }
-    ensures books { AreBooks B.items B.fits words.now.table_id words.now.key.program.value words.now.key.lines.value words.now.key.params books.new }
+    requires books { AreBooks B.items B.fits words.now.table_id words.now.key.program.value
+        words.now.key.lines.value words.now.key.params books.old }
+    requires ready { May (kept_of books.old)
+        (event.Shrug (kept_of books.old).place victim kinds.Line) }
+    ensures books { AreBooks B.items B.fits words.now.table_id words.now.key.program.value
+        words.now.key.lines.value words.now.key.params books.new }
     ensures stay { BooksStay books.old books.new }
     ensures kept { kept_of books.new ≡ shrug_row victim kinds.Line (kept_of books.old) }
 {
@@ -183,10 +199,12 @@ pub fn shrug<P: Program, B: Bag<P>>(
     victim: u32,
     kind: Kind,
 )
-    requires books { AreBooks B.items B.fits words.now.table_id words.now.key.program.value words.now.key.lines.value words.now.key.params books.old }
+    requires books { AreBooks B.items B.fits words.now.table_id words.now.key.program.value
+        words.now.key.lines.value words.now.key.params books.old }
     requires places { places ≡ words.now.key.lines.value.places }
     requires ready { May (kept_of books.old) (event.Shrug (kept_of books.old).place victim kind) }
-    ensures books { AreBooks B.items B.fits words.now.table_id words.now.key.program.value words.now.key.lines.value words.now.key.params books.new }
+    ensures books { AreBooks B.items B.fits words.now.table_id words.now.key.program.value
+        words.now.key.lines.value words.now.key.params books.new }
     ensures stay { BooksStay books.old books.new }
     ensures kept { kept_of books.new ≡ shrug_row victim kind (kept_of books.old) }
 {

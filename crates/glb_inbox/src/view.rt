@@ -4,7 +4,8 @@ use glb_place::Record;
 use std::collections::LinkedList;
 
 /// A place: its record, the record that it had before its last message was split off, what its bag
-/// keeps where a part is split off next, how many steps it made, and the word that the last one found.
+/// keeps where a part is split off next, how many steps it made, and the word that the last one
+/// found.
 pub struct Seated<I> {
     pub kept: Record<I>,
     pub before: Option<Record<I>>,

@@ -16,7 +16,8 @@ pub fn mint<P: Program, B: Bag<P>>(words: &Words<P, B, P::Item>, seat: &mut Slip
     requires table { (seat.old.table_id ≡ words.now.table_id) × (2 < words.now.table_id.words) }
     requires ready { Reads seat.old.me (λ x. May x.kept (event.Mint x.kept.place)) }
     ensures table { (seat.new.table_id ≡ seat.old.table_id) × (seat.new.id ≡ seat.old.id) }
-    ensures moved { (n : ℕ) × (seat.new.me ≡ (on_one (λ x. stepped (mint_row x.kept) n x) seat.old.me.0, seat.old.me.1)) }
+    ensures moved { (n : ℕ) × (seat.new.me
+        ≡ (on_one (λ x. stepped (mint_row x.kept) n x) seat.old.me.0, seat.old.me.1)) }
 {
     words.fetch_add::<Mint>(seat, 0, 1);
 }
@@ -25,7 +26,8 @@ pub fn burn<P: Program, B: Bag<P>>(words: &Words<P, B, P::Item>, seat: &mut Slip
     requires table { (seat.old.table_id ≡ words.now.table_id) × (2 < words.now.table_id.words) }
     requires ready { Reads seat.old.me (λ x. May x.kept (event.Burn x.kept.place)) }
     ensures table { (seat.new.table_id ≡ seat.old.table_id) × (seat.new.id ≡ seat.old.id) }
-    ensures moved { (n : ℕ) × (seat.new.me ≡ (on_one (λ x. stepped (burn_row x.kept) n x) seat.old.me.0, seat.old.me.1)) }
+    ensures moved { (n : ℕ) × (seat.new.me
+        ≡ (on_one (λ x. stepped (burn_row x.kept) n x) seat.old.me.0, seat.old.me.1)) }
 {
     words.fetch_sub::<Burn>(seat, 0, 1);
 }
@@ -35,7 +37,10 @@ pub fn sleep<P: Program, B: Bag<P>>(words: &Words<P, B, P::Item>, seat: &mut Sli
     requires table { (seat.old.table_id ≡ words.now.table_id) × (2 < words.now.table_id.words) }
     requires ready { Reads seat.old.me (λ x. May x.kept (event.Sleep x.kept.place)) }
     ensures table { (seat.new.table_id ≡ seat.old.table_id) × (seat.new.id ≡ seat.old.id) }
-    ensures moved { seat.new.me ≡ (on_one (λ x. stepped (sleep_row x.kept) result x) seat.old.me.0, seat.old.me.1) }
+    ensures moved { seat.new.me ≡ (
+      on_one (λ x. stepped (sleep_row x.kept) result x) seat.old.me.0,
+      seat.old.me.1,
+    ) }
 {
     words.fetch_sub::<Sleep>(seat, 0, 1)
 }
@@ -45,7 +50,8 @@ pub fn over<P: Program, B: Bag<P>>(words: &Words<P, B, P::Item>, seat: &mut Slip
     requires table { (seat.old.table_id ≡ words.now.table_id) × (2 < words.now.table_id.words) }
     requires ready { Reads seat.old.me (λ x. x.kept.local.phase ≢ phase.Gone) }
     ensures table { (seat.new.table_id ≡ seat.old.table_id) × (seat.new.id ≡ seat.old.id) }
-    ensures moved { seat.new.me ≡ (on_one (λ x. stepped (ended_at result x.kept) result x) seat.old.me.0, seat.old.me.1) }
+    ensures moved { seat.new.me
+        ≡ (on_one (λ x. stepped (ended_at result x.kept) result x) seat.old.me.0, seat.old.me.1) }
 {
     words.load::<Over>(seat, 0)
 }
@@ -59,7 +65,8 @@ pub fn halt<P: Program, B: Bag<P>>(
     requires ready { Reads seat.old.me (λ x. (x.kept.local.phase ≢ phase.Gone)
         × ((code ≡ 1) ⊎ (code ≡ 2)) × (code ≡ 1 → x.kept.params.limit < x.kept.last)) }
     ensures table { (seat.new.table_id ≡ seat.old.table_id) × (seat.new.id ≡ seat.old.id) }
-    ensures moved { (n : ℕ) × (seat.new.me ≡ (on_one (λ x. stepped (halt_row code x.kept) n x) seat.old.me.0, seat.old.me.1)) }
+    ensures moved { (n : ℕ) × (seat.new.me
+        ≡ (on_one (λ x. stepped (halt_row code x.kept) n x) seat.old.me.0, seat.old.me.1)) }
 {
     words.fetch_max::<Halt>(seat, 2, code);
 }
@@ -70,7 +77,8 @@ pub fn halted<P: Program, B: Bag<P>>(words: &Words<P, B, P::Item>, seat: &mut Sl
     requires ready { Reads seat.old.me (λ x. x.kept.local.phase ≢ phase.Gone) }
     ensures table { (seat.new.table_id ≡ seat.old.table_id) × (seat.new.id ≡ seat.old.id) }
     ensures least { (x : Seated P.Item) → seat.old.me.0 ≡ one x → x.kept.code ≤ result }
-    ensures moved { seat.new.me ≡ (on_one (λ x. stepped (halted_row result x.kept) result x) seat.old.me.0, seat.old.me.1) }
+    ensures moved { seat.new.me
+        ≡ (on_one (λ x. stepped (halted_row result x.kept) result x) seat.old.me.0, seat.old.me.1) }
 {
     words.load::<Stop>(seat, 2)
 }

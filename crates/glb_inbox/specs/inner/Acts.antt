@@ -1,5 +1,6 @@
 -- How the record moves at a step of its seat, and what that asks for.
-use Rattle.std.specs.Prelude.{◌≡◌, ℕ, ◌≤◌, ◌<◌, true, List, [], ◌∷◌, ◌++◌, length, Some, IsPermutation}
+use Rattle.std.specs.Prelude.{◌≡◌, ℕ, ◌≤◌, ◌<◌, true, List, [], ◌∷◌, ◌++◌, length, Some}
+use Rattle.std.specs.Prelude.{IsPermutation}
 use Rattle.glb_laws.specs.Expansion.{Moves, combined, Expands}
 use Rattle.glb_rules.specs.World.{has_edge}
 use Rattle.glb_rules.specs.declared.kinds.Kind.{Kind}
@@ -38,7 +39,8 @@ module _ {I : Type 0} where
   noted (ShrugLine v) r = shrug_row v kind.Line r
 
   abbrev pub MayNote : Noted → Record I → Type 0
-  MayNote (Look other k s x) r = IsOwn r other k s × MayLook s k (knows r (edge_with r.place other k s)) x
+  MayNote (Look other k s x) r = IsOwn r other k s
+      × MayLook s k (knows r (edge_with r.place other k s)) x
   MayNote (DenyLine t) r = May r (event.Deny r.place t kind.Line)
   MayNote (ShrugLine v) r = May r (event.Shrug r.place v kind.Line)
 
@@ -75,17 +77,21 @@ module _ {I : Type 0} where
 
   abbrev pub MayGet : Got → Record I → Type 0
   MayGet (Hold t k) r =
-      (t < r.lines.places) × (has_edge (setup_in r) k t r.place ≡ true) × (wanted k (known_at r.known k t r.place) ≡ 0)
+      (t < r.lines.places) × (has_edge (setup_in r) k t r.place ≡ true)
+      × (wanted k (known_at r.known k t r.place) ≡ 0)
   MayGet (Shrug v) r = May r (event.Shrug r.place v kind.Steal)
   MayGet (Take v k) r = May r (event.Take r.place v k)
 
   -- the items that a batch may have taken out of the bag
-  abbrev pub Takes : {V : Type 0} → (I → List I) → (I → V) → V → (V → V → V) → ℕ → List I → V → List I → List I → Type 0
+  abbrev pub Takes : {V : Type 0} → (I → List I) → (I → V) → V → (V → V → V) → ℕ → List I → V
+      → List I → List I → Type 0
   Takes children value unit combine done items gain bag taken =
-      (length taken ≡ done) × Moves children bag taken items × (gain ≡ combined value combine unit taken)
+      (length taken ≡ done) × Moves children bag taken items
+      × (gain ≡ combined value combine unit taken)
 
   -- what a batch owes
-  pub record MayBatch {V : Type 0} (children : I → List I) (value : I → V) (unit : V) (combine : V → V → V)
+  pub record MayBatch {V : Type 0} (children : I → List I) (value : I → V) (unit : V)
+      (combine : V → V → V)
       (done : ℕ) (items : List I) (gain : V) (r : Record I) : Type 0 where
     pub may : May r (event.Batch r.place)
     pub some : 1 ≤ done
@@ -107,11 +113,12 @@ module _ {I : Type 0} where
     pub more : HasMore part r
 
   -- the record before a message was split off, and how the message's row came from it
-  pub record Undoes (row : Record I → Record I) (F : Record I → Type 0) (x : Seated I) : Type 0 where
-    pub old : Record I
-    pub before : x.before ≡ Some old
-    pub is : x.kept ≡ row old
-    pub may : F old
+  pub record Undoes (row : Record I → Record I) (F : Record I → Type 0) (x : Seated I) : Type 0
+    where
+      pub old : Record I
+      pub before : x.before ≡ Some old
+      pub is : x.kept ≡ row old
+      pub may : F old
 
   abbrev pub WasSent : Sent → Record I → Type 0
   WasSent (Ask v k) r = has_edge (setup_in r) k r.place v ≡ true

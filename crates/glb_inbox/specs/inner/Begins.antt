@@ -1,6 +1,5 @@
 -- The table at the start.
-use Rattle.std.specs.Prelude.{ℕ, zero, suc, false, List, [], ◌∷◌, map, get_or, None}
-use Rattle.std.specs.declared.snapshot.Snapshot.{Snapshot}
+use Rattle.std.specs.Prelude.{ℕ, zero, suc, false, List, [], ◌∷◌, get_or, None}
 use Rattle.glb_rules.specs.Joins.{join_to}
 use Rattle.glb_rules.specs.World.{state_of}
 use Rattle.glb_rules.specs.Events.{name_of}
@@ -14,13 +13,18 @@ use Rattle.glb_inbox.specs.declared.rule.Start.{Start}
 use Rattle.glb_inbox.specs.declared.view.Seated.{Seated}
 use Rattle.glb_inbox.specs.declared.view.Member.{Member}
 use Rattle.glb_inbox.specs.declared.view.Member.TheVariants.{Place}
+use Rattle.glb_inbox.specs.Viewing.{bag_lists}
 use Rattle.glb_inbox.specs.inner.Rule.{Job, setup}
 
--- the lines of one thief to the victims below a number, as they are at the start, before other edges
+-- the lines of one thief to the victims below a number, as they are at the start, before other
+-- edges
 abbrev pub known_lines : {I : Type 0} → Job I → ℕ → ℕ → List KnownEdge → List KnownEdge
 known_lines {I} j t zero rest = rest
 known_lines {I} j t (suc n) rest =
-    record { name = name_of kind.Line t n; edge = state_of (first_edge {I = I} (setup j) kind.Line t n) }
+    record {
+      name = name_of kind.Line t n;
+      edge = state_of (first_edge {I = I} (setup j) kind.Line t n);
+    }
     ∷ known_lines j t n rest
 
 -- the lines of all thieves below a number
@@ -41,7 +45,13 @@ first_record j bags p = record {
 }
 
 abbrev pub first_seat : {I : Type 0} → Job I → (ℕ → List I) → ℕ → Seated I
-first_seat j bags p = record { kept = first_record j bags p; before = None; rest = []; steps = 0; found = 0 }
+first_seat j bags p = record {
+  kept = first_record j bags p;
+  before = None;
+  rest = [];
+  steps = 0;
+  found = 0;
+}
 
 -- 1 for a place that has items
 abbrev pub live_of : {I : Type 0} → List I → ℕ
@@ -49,12 +59,8 @@ live_of [] = 0
 live_of (x ∷ xs) = 1
 
 module _ {P B I : Type 0} (children : P → I → List I) (items : B → List I) where
-  -- the items of the bags at the start
-  abbrev pub bag_lists : List (Snapshot B) → List (List I)
-  bag_lists bags = map (λ b. items b.value) bags
-
   abbrev pub bags_of : Start P B → ℕ → List I
-  bags_of key p = get_or (bag_lists key.bags.items) p []
+  bags_of key p = get_or (bag_lists items key.bags.items) p []
 
   abbrev pub job_of : Start P B → Job I
   job_of key = record {

@@ -1,90 +1,58 @@
 -- What a desk keeps of its place agrees with the place's record.
-use Rattle.std.specs.Prelude.{◌≡◌, ℕ, ◌<◌, ◌≤◌, Bool, true, false, List, [], ◌∷◌, get_or, length, Option, Some, None}
+use Rattle.std.specs.Prelude.{◌≡◌, ℕ, ◌<◌, ◌≤◌, List, [], map, get_or, length, Option, Some}
 use Rattle.atomic_table.specs.Seated.{TableId}
 use Rattle.atomic_table.specs.Table.{Me}
 use Rattle.glb_cube.specs.Lines.{Cube}
 use Rattle.glb_core.specs.Counters.{counters_of}
 use Rattle.glb_rules.specs.Setups.{bit}
 use Rattle.glb_rules.specs.Effects.{wake_count}
-use Rattle.glb_rules.specs.History.{first_local}
 use Rattle.glb_rules.specs.declared.kinds.Edge.{Edge}
 use Rattle.glb_rules.specs.declared.kinds.Edge.TheVariants as seen
+use Rattle.glb_rules.specs.declared.kinds.Kind.{Kind}
+use Rattle.glb_rules.specs.declared.kinds.Side.{Side}
+use Rattle.glb_rules.specs.declared.kinds.Side.TheVariants as side
 use Rattle.glb_rules.specs.declared.params.Params.{Params}
-use Rattle.glb_place.specs.declared.record.Record.{Record}
 use Rattle.glb_inbox.specs.declared.books.Books.{Books}
 use Rattle.glb_inbox.specs.declared.lane.Lane.{Lane}
-use Rattle.glb_inbox.specs.declared.lane.Answer.{Answer}
-use Rattle.glb_inbox.specs.declared.lane.Answer.TheVariants.{Nothing, Refusal, LineRefusal, Part}
 use Rattle.glb_inbox.specs.declared.message.Tie.{Tie}
 use Rattle.glb_inbox.specs.declared.view.Seated.{Seated}
 use Rattle.glb_inbox.specs.declared.view.Member.{Member}
-use Rattle.glb_inbox.specs.declared.view.Member.TheVariants as member
-use Rattle.glb_inbox.specs.Posts.{LaneView}
+use Rattle.glb_inbox.specs.Keeping.{LaneView, MayReceive, MessageView, kept_at, lane_at, look_at}
+use Rattle.glb_inbox.specs.Keeping.{told_by}
+use Rattle.glb_inbox.specs.Viewing.{kept_of, lane_view}
+use Rattle.glb_inbox.specs.inner.Firsts.{lane_with}
 use Rattle.glb_inbox.specs.inner.Lanes.{AreLanes, LanesStay, Mirrors}
-use Rattle.glb_inbox.specs.inner.Plays.{no_job}
 use Rattle.glb_inbox.specs.inner.Posted.{tie}
 use Rattle.glb_inbox.specs.inner.Views.{one}
 
 module _ {I : Type 0} where
-  -- the place of a view that has none
-  abbrev pub nowhere : Seated I
-  nowhere = record {
-    kept = record {
-      place = 0;
-      params = (no_job {I = I}).params;
-      lines = (no_job {I = I}).lines;
-      local = first_local 0 [];
-      known = [];
-      last = 0;
-      over = false;
-      code = 0;
-    };
-    before = None;
-    rest = [];
-    steps = 0;
-    found = 0;
-  }
-
-  -- the view's place
-  abbrev pub place_in : List (Member I) → Seated I
-  place_in [] = nowhere
-  place_in (member.Place x ∷ v) = x
-  place_in (member.Request k ∷ v) = nowhere
-  place_in (member.Refusal ∷ v) = nowhere
-  place_in (member.Parcel k xs ∷ v) = nowhere
-
-  -- its record
-  abbrev pub kept_in : List (Member I) → Record I
-  kept_in v = (place_in v).kept
-
   -- the seat is one place's
   abbrev pub IsOne : Me ℕ (List (Member I)) → Type 0
   IsOne m = (x : Seated I) × (m ≡ (one x, []))
 
--- there is one
-abbrev pub has : {A : Type 0} → Option A → Bool
-has None = false
-has (Some x) = true
-
 module _ {B I : Type 0} where
-  -- the place's record
-  abbrev pub kept_of : Books B I → Record I
-  kept_of b = kept_in b.seat.me.0
+  -- the lanes, as contracts see them
+  abbrev pub lane_views : List (Lane B I) → List LaneView
+  lane_views lanes = map lane_view lanes
 
-  -- what an answer tells of its edge
-  abbrev pub tells : Answer B I → Option Edge
-  tells Nothing = None
-  tells (Refusal s) = Some seen.Refused
-  tells LineRefusal = Some seen.Refused
-  tells (Part b s) = Some seen.Loot
+  -- what a lane knows of its edge on this side
+  abbrev pub known_on : Side → Lane B I → Edge
+  known_on side.Inward a = a.inward
+  known_on side.Outward a = a.outward
 
-  abbrev pub lane_view : Lane B I → LaneView
-  lane_view a = record {
-    request = has a.request;
-    answer = tells a.answer;
-    inward_looks = a.inward_looks;
-    outward_looks = a.outward_looks;
-  }
+  -- what the lanes know of the edge of this kind with another place
+  abbrev pub lanes_know : ℕ → List (Lane B I) → ℕ → Kind → Side → Edge
+  lanes_know places lanes other k s =
+      known_on s (get_or lanes (lane_at places k other) (lane_with seen.Idle seen.Idle))
+
+  -- what a look at an edge answered, as the lanes have it
+  pub record LanesAnswer (places other : ℕ) (k : Kind) (s : Side) (answer : Edge)
+      (old new : List (Lane B I)) : Type 0 where
+    pub lanes : List LaneView
+    pub receives : MayReceive places (lanes_know places old) (lane_views old) lanes
+    pub answers : answer ≡ told_by (lanes_know places old other k s)
+        (kept_at (lane_at places k other) s lanes)
+    pub forgets : lane_views new ≡ look_at (lane_at places k other) s lanes
 
   -- the place is the same, and nothing was looked at
   pub record BooksStay (old new : Books B I) : Type 0 where
@@ -108,7 +76,12 @@ module _ {B I : Type 0} where
       pub counted : b.counters ≡ counters_of (kept_of b).local.count
       pub asleep : bit b.is_asleep ≡ wake_count (kept_of b).local.phase
 
+-- a message that came over this edge and tells this
+abbrev pub message_of : ℕ → Kind → Side → Edge → MessageView
+message_of other k s x = record { other = other; kind = k; side = s; edge = x }
+
 -- the ways lead to the inboxes of all places, for messages of this table and this program
-pub record AreWays {P : Type 0} (id : TableId) (program : P) (places : ℕ) (ways : List (Option (Tie P))) : Type 0 where
+pub record AreWays {P : Type 0} (id : TableId) (program : P) (places : ℕ)
+    (ways : List (Option (Tie P))) : Type 0 where
   pub all : length ways ≡ places
   pub tied : (i : ℕ) (d : Option (Tie P)) → i < places → get_or ways i d ≡ Some (tie program id)

@@ -43,14 +43,16 @@ module _ {I : Type 0} where
   pub record LiveTells (j : Job I) (xs : List (Seated I)) (live : ℕ) : Type 0 where
     -- the items that travel
     pub way : List I
-    pub expansion : Expansion j.children j.roots (flat_map done_of xs) (flat_map bag_of_place xs ++ way)
+    pub expansion : Expansion j.children j.roots (flat_map done_of xs)
+        (flat_map bag_of_place xs ++ way)
     pub nothing_left : live ≡ 0 → (flat_map bag_of_place xs ≡ []) × (way ≡ [])
     pub balanced : live ≡ 0 → Balanced j xs
     pub bounded : Each (λ x. IsBounded x.kept) xs
     pub small : live ≡ 0 → Each (λ x. HasSmallCounts x.kept.local.count) xs
     pub jobs : Each (λ x. (x.kept.params ≡ j.params) × (x.kept.lines ≡ j.lines)) xs
     pub over : Each (λ x. x.kept.over ≡ true → live ≡ 0) xs
-    pub gone : Each (λ x. x.kept.local.phase ≡ phase.Gone → (x.kept.over ≡ true) ⊎ (x.kept.code ≢ 0)) xs
+    pub gone : Each (λ x. x.kept.local.phase ≡ phase.Gone → (x.kept.over ≡ true)
+        ⊎ (x.kept.code ≢ 0)) xs
 
   -- a load of items
   abbrev pub ItemsTell : List (Seated I) → ℕ → Type 0
@@ -65,7 +67,8 @@ module _ {I : Type 0} where
   -- what the close promises of the three words and of the records of all places
   pub record Closes (j : Job I) (xs : List (Seated I)) (live items stop : ℕ) : Type 0 where
     pub way : List I
-    pub expansion : Expansion j.children j.roots (flat_map done_of xs) (flat_map bag_of_place xs ++ way)
+    pub expansion : Expansion j.children j.roots (flat_map done_of xs)
+        (flat_map bag_of_place xs ++ way)
     pub nothing_left : live ≡ 0 → (flat_map bag_of_place xs ≡ []) × (way ≡ [])
     pub balanced : live ≡ 0 → Balanced j xs
     pub bounded : Each (λ x. IsBounded x.kept) xs
@@ -74,4 +77,5 @@ module _ {I : Type 0} where
     pub count : items ≡ length (flat_map done_of xs)
     pub cause : stop ≡ 1 → j.params.limit < items
     pub codes : stop ≤ 2
-    pub ended : Each (λ x. x.kept.local.phase ≡ phase.Gone) xs → 0 < length xs → (live ≡ 0) ⊎ (stop ≢ 0)
+    pub ended : Each (λ x. x.kept.local.phase ≡ phase.Gone) xs → 0 < length xs
+        → (live ≡ 0) ⊎ (stop ≢ 0)

@@ -1,5 +1,5 @@
 -- What a desk and a post stand for.
-use Rattle.std.specs.Prelude.{◌≡◌, ℕ, ◌<◌, List, map, Some, Option}
+use Rattle.std.specs.Prelude.{◌≡◌, ℕ, ◌<◌, List, Some, Option}
 use Rattle.atomic_table.specs.Seated.{TableId}
 use Rattle.glb_cube.specs.Lines.{Cube}
 use Rattle.glb_rules.specs.declared.params.Params.{Params}
@@ -7,45 +7,23 @@ use Rattle.glb_place.specs.Records.{IsFirst}
 use Rattle.glb_inbox.specs.declared.books.Books.{Books}
 use Rattle.glb_inbox.specs.declared.message.Tie.{Tie}
 use Rattle.glb_inbox.specs.declared.rule.Start.{Start}
-use Rattle.glb_inbox.specs.Posts.{DeskView, PostView, home_at}
-use Rattle.glb_inbox.specs.inner.Books.{AreBooks, AreWays, kept_of, lane_view, place_in}
-use Rattle.glb_inbox.specs.inner.Begins.{bag_lists, bags_of}
+use Rattle.glb_inbox.specs.Posts.{DeskView, home_at}
+use Rattle.glb_inbox.specs.inner.Books.{AreBooks, AreWays}
+use Rattle.glb_inbox.specs.inner.Begins.{bags_of}
 use Rattle.glb_inbox.specs.inner.Posted.{tie}
 
 module _ {P B I : Type 0} where
-  -- what contracts see of a desk that keeps these books, at a table with this name
-  abbrev pub desk_view : TableId → P → ℕ → Books B I → DeskView P I
-  desk_view id program places b = record {
-    program = program;
-    kept = kept_of b;
-    home = home_at id b.place;
-    steps = (place_in b.seat.me.0).steps;
-    found = (place_in b.seat.me.0).found;
-    places = places;
-    lanes = map lane_view b.lanes.items;
-    live_looks = b.live_looks;
-    stop_looks = b.stop_looks;
-  }
-
   pub record IsDesk (items : B → List I) (fits : B → P → Type 0) (id : TableId) (program : P)
-      (lines : Cube) (params : Params) (b : Books B I) (own : Option (Tie P)) (ways : List (Option (Tie P)))
+      (lines : Cube) (params : Params) (b : Books B I) (own : Option (Tie P))
+      (ways : List (Option (Tie P)))
       : Type 0 where
     pub books : AreBooks items fits id program lines params b
     pub all_ways : AreWays id program lines.places ways
     pub own_way : own ≡ Some (tie program id)
 
-  -- what contracts see of a post
-  abbrev pub post_view : (P → I → List I) → (B → List I) → TableId → Start P B → PostView P I
-  post_view children items id key = record {
-    id = id;
-    program = key.program.value;
-    params = key.params;
-    lines = key.lines.value;
-    bags = bag_lists {P = P} children items key.bags.items;
-  }
-
 -- a desk is as its place is at the start
-pub record IsBegun {P B I : Type 0} (children : P → I → List I) (items : B → List I) (id : TableId) (key : Start P B)
+pub record IsBegun {P B I : Type 0} (children : P → I → List I) (items : B → List I) (id : TableId)
+    (key : Start P B)
     (p : ℕ) (d : DeskView P I) : Type 0 where
   pub program : d.program ≡ key.program.value
   pub home : d.home ≡ home_at id p

@@ -11,7 +11,8 @@ use Rattle.glb_inbox.specs.declared.view.Member.TheVariants.{Place, Request, Ref
 use Rattle.glb_inbox.specs.inner.Members.{total, Each, tally, requests, refusals, parcels, left_in}
 use Rattle.glb_inbox.specs.inner.Rule.{own_setup, own_busy}
 
--- the balances of one place, which has no credit and knows none of its own steal edges as other than Idle
+-- the balances of one place, which has no credit and knows none of its own steal edges as other
+-- than Idle
 pub record PlaceEnded {I : Type 0} (awake : ℕ → Bool) (r : Record I) : Type 0 where
   pub no_credit : r.local.credit ≡ credit.Zero
   pub empty : r.local.bag ≡ []
@@ -36,4 +37,5 @@ pub record Ended {I : Type 0} (awake : ℕ → Bool) (ms : List (Member I)) : Ty
   pub given : total (tally (λ c. c.given)) ms ≡ total (tally (λ c. c.got)) ms
   pub line_given : total (tally (λ c. c.line_given)) ms ≡ total (tally (λ c. c.line_got)) ms
   pub units : total (tally (λ c. c.sent_units)) ms ≡ total (tally (λ c. c.got_units)) ms
-  pub asks : total (tally (λ c. c.asks)) ms ≡ total (tally (λ c. c.denied)) ms + total (tally (λ c. c.given)) ms
+  pub asks : total (tally (λ c. c.asks)) ms ≡ total (tally (λ c. c.denied)) ms + total
+      (tally (λ c. c.given)) ms

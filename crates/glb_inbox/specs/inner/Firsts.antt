@@ -30,4 +30,5 @@ lane_with inward outward = record {
 abbrev pub first_lane : {B I : Type 0} → Cube → (ℕ → Bool) → ℕ → Kind → ℕ → Lane B I
 first_lane c awake p kind.Steal o = lane_with seen.Idle seen.Idle
 first_lane c awake p kind.Line o =
-    lane_with (first_known (awake o) (has_number p (outs_of c o))) (first_known (awake p) (has_number o (outs_of c p)))
+    lane_with (first_known (awake o) (has_number p (outs_of c o)))
+    (first_known (awake p) (has_number o (outs_of c p)))

@@ -1,5 +1,6 @@
 -- What a place keeps of its edges with other places, and of messages that came over them.
-use Rattle.std.specs.Prelude.{◌≡◌, ◌≢◌, ℕ, ◌+◌, ◌*◌, ◌<◌, false, List, [], ◌∷◌, length, get_or, IfSome}
+use Rattle.std.specs.Prelude.{◌≡◌, ◌≢◌, ℕ, ◌*◌, ◌<◌, false, List, [], ◌∷◌, length, get_or}
+use Rattle.std.specs.Prelude.{IfSome}
 use Rattle.atomic_table.specs.Seated.{TableId}
 use Rattle.glb_rules.specs.Events.{name_of}
 use Rattle.glb_rules.specs.World.{has_edge}
@@ -18,13 +19,9 @@ use Rattle.glb_inbox.specs.declared.lane.Lane.{Lane}
 use Rattle.glb_inbox.specs.declared.lane.Answer.{Answer}
 use Rattle.glb_inbox.specs.declared.lane.Answer.TheVariants.{Nothing, Refusal, LineRefusal, Part}
 use Rattle.glb_inbox.specs.declared.view.Member.TheVariants as member
+use Rattle.glb_inbox.specs.Keeping.{lane_at}
 use Rattle.glb_inbox.specs.inner.Members.{wanted}
 use Rattle.glb_inbox.specs.inner.Posted.{Says}
-
--- where the lane of this kind with this place stands
-abbrev pub lane_at : ℕ → Kind → ℕ → ℕ
-lane_at places kind.Steal other = other
-lane_at places kind.Line other = places + other
 
 -- a part can come over an edge in this state
 abbrev pub CanBring : Kind → Edge → Type 0
@@ -78,11 +75,13 @@ module _ {B I : Type 0} where
     IsAnswer k Nothing = Unit {0}
     IsAnswer k (Refusal s) = (k ≡ kind.Steal) × Says id (member.Refusal ∷ []) s
     IsAnswer k LineRefusal = k ≡ kind.Line
-    IsAnswer k (Part b s) = Says id (member.Parcel k (items b) ∷ []) s × fits b q × (0 < length (items b))
+    IsAnswer k (Part b s) = Says id (member.Parcel k (items b) ∷ []) s × fits b q
+        × (0 < length (items b))
 
     -- the messages that are kept are lawful after what is known
     pub record IsLane (k : Kind) (a : Lane B I) : Type 0 where
-      pub request : IfSome a.request (λ s. Says id (member.Request k ∷ []) s × (wanted k a.inward ≡ 0))
+      pub request : IfSome a.request (λ s. Says id (member.Request k ∷ []) s
+          × (wanted k a.inward ≡ 0))
       pub answer : IsAnswer k a.answer
       pub finds : CanFind mark.Unseen k side.Outward a.outward (told a.outward a.answer)
       pub kept : HasAnswer k a.outward a.answer
@@ -90,7 +89,8 @@ module _ {B I : Type 0} where
     -- a lane of each kind for each place
     pub record AreLanes (places : ℕ) (lanes : List (Lane B I)) : Type 0 where
       pub wide : length lanes ≡ 2 * places
-      pub each : (k : Kind) (o : ℕ) (d : Lane B I) → o < places → IsLane k (get_or lanes (lane_at places k o) d)
+      pub each : (k : Kind) (o : ℕ) (d : Lane B I) → o < places
+          → IsLane k (get_or lanes (lane_at places k o) d)
 
   -- what the lanes know of the place's edges is what its record knows
   pub record Mirrors (lanes : List (Lane B I)) (r : Record I) : Type 0 where
@@ -121,7 +121,8 @@ module _ {B I : Type 0} where
   -- its out-edge
   pub record SetsOutward (at : ℕ) (x : Edge) (old new : List (Lane B I)) : Type 0 where
     pub here : (d : Lane B I) → (get_or new at d).outward ≡ x
-    pub others : (i : ℕ) (d : Lane B I) → i ≢ at → (get_or new i d).outward ≡ (get_or old i d).outward
+    pub others : (i : ℕ) (d : Lane B I) → i ≢ at → (get_or new i d).outward
+        ≡ (get_or old i d).outward
     pub inward : (i : ℕ) (d : Lane B I) → (get_or new i d).inward ≡ (get_or old i d).inward
 
   -- no lane was looked at
@@ -130,15 +131,21 @@ module _ {B I : Type 0} where
 
   -- the in-edge of the lane at a number was looked at once
   pub record LooksInward (at : ℕ) (old new : List (Lane B I)) : Type 0 where
-    pub here : (d : Lane B I) → (get_or new at d).inward_looks ≡ raised (get_or old at d).inward_looks
-    pub others : (i : ℕ) (d : Lane B I) → i ≢ at → (get_or new i d).inward_looks ≡ (get_or old i d).inward_looks
-    pub outward : (i : ℕ) (d : Lane B I) → (get_or new i d).outward_looks ≡ (get_or old i d).outward_looks
+    pub here : (d : Lane B I)
+        → (get_or new at d).inward_looks ≡ raised (get_or old at d).inward_looks
+    pub others : (i : ℕ) (d : Lane B I) → i ≢ at → (get_or new i d).inward_looks
+        ≡ (get_or old i d).inward_looks
+    pub outward : (i : ℕ) (d : Lane B I) → (get_or new i d).outward_looks
+        ≡ (get_or old i d).outward_looks
 
   -- its out-edge
   pub record LooksOutward (at : ℕ) (old new : List (Lane B I)) : Type 0 where
-    pub here : (d : Lane B I) → (get_or new at d).outward_looks ≡ raised (get_or old at d).outward_looks
-    pub others : (i : ℕ) (d : Lane B I) → i ≢ at → (get_or new i d).outward_looks ≡ (get_or old i d).outward_looks
-    pub inward : (i : ℕ) (d : Lane B I) → (get_or new i d).inward_looks ≡ (get_or old i d).inward_looks
+    pub here : (d : Lane B I)
+        → (get_or new at d).outward_looks ≡ raised (get_or old at d).outward_looks
+    pub others : (i : ℕ) (d : Lane B I) → i ≢ at → (get_or new i d).outward_looks
+        ≡ (get_or old i d).outward_looks
+    pub inward : (i : ℕ) (d : Lane B I) → (get_or new i d).inward_looks
+        ≡ (get_or old i d).inward_looks
 
   -- the edge of the lane at a number at which the place is this end was looked at once
   abbrev pub LooksOn : Side → ℕ → List (Lane B I) → List (Lane B I) → Type 0

@@ -1,8 +1,10 @@
 -- What each step on a word tells of the place that steps.
-use Rattle.std.specs.Prelude.{◌≡◌, ℕ, false, ◌+◌, ◌^◌, ◌≤◌, ◌<◌, cond, ◌==◌, List, [], ◌∷◌, ◌++◌, length, IsPermutation}
+use Rattle.std.specs.Prelude.{◌≡◌, ℕ, false, ◌+◌, ◌^◌, ◌≤◌, ◌<◌, cond, ◌==◌, List, [], ◌∷◌, ◌++◌}
+use Rattle.std.specs.Prelude.{length, IsPermutation}
 use Rattle.atomic_table.specs.Table.{Step, Me}
 use Rattle.glb_place.specs.declared.record.Record.{Record}
-use Rattle.glb_place.specs.Rows.{batch_row, mint_row, burn_row, sleep_row, over_row, halt_row, halted_row}
+use Rattle.glb_place.specs.Rows.{batch_row, mint_row, burn_row, sleep_row, over_row, halt_row}
+use Rattle.glb_place.specs.Rows.{halted_row}
 use Rattle.glb_inbox.specs.declared.view.Member.{Member}
 use Rattle.glb_inbox.specs.declared.view.Member.TheVariants.{Place, Request, Refusal, Parcel}
 use Rattle.glb_inbox.specs.declared.view.Seated.{Seated}
@@ -38,7 +40,8 @@ module _ {I : Type 0} where
   Halts st m n m' = Notes (halt_row st.first) st m n m'
 
   abbrev pub Stops : Told I
-  Stops st m n m' = Notes (halted_row n) st m n m' × ((x : Seated I) → m.0 ≡ one x → x.kept.code ≤ n)
+  Stops st m n m' = Notes (halted_row n) st m n m'
+      × ((x : Seated I) → m.0 ≡ one x → x.kept.code ≤ n)
 
   -- the bag of the view's place
   abbrev pub bag_of : List (Member I) → List I
@@ -50,7 +53,8 @@ module _ {I : Type 0} where
 
   abbrev pub Settling : (List I → List I → Type 0) → List I → Told I
   Settling takes items st m n m' =
-      (taken : List I) × takes (bag_of m.0) taken × (n + st.first < 2 ^ 64) × Notes (batch_row (n + st.first) taken items) st m n m'
+      (taken : List I) × takes (bag_of m.0) taken × (n + st.first < 2 ^ 64)
+      × Notes (batch_row (n + st.first) taken items) st m n m'
 
   -- the rest of the bag is known, where this part is split off
   abbrev pub Sparing : List I → Told I
@@ -70,12 +74,15 @@ module _ {I : Type 0} where
   -- a load by a seat that has all places
   abbrev pub ReadsLive : Job I → Told I
   ReadsLive j st m n m' =
-      (m' ≡ m) × ((xs : List (Seated I)) → m.0 ≡ as_places xs → length xs ≡ j.lines.places → LiveTells j xs n)
+      (m' ≡ m) × ((xs : List (Seated I)) → m.0 ≡ as_places xs → length xs ≡ j.lines.places
+      → LiveTells j xs n)
 
   abbrev pub ReadsItems : Job I → Told I
   ReadsItems j st m n m' =
-      (m' ≡ m) × ((xs : List (Seated I)) → m.0 ≡ as_places xs → length xs ≡ j.lines.places → ItemsTell xs n)
+      (m' ≡ m) × ((xs : List (Seated I)) → m.0 ≡ as_places xs → length xs ≡ j.lines.places
+      → ItemsTell xs n)
 
   abbrev pub ReadsStop : Job I → Told I
   ReadsStop j st m n m' =
-      (m' ≡ m) × ((xs : List (Seated I)) → m.0 ≡ as_places xs → length xs ≡ j.lines.places → StopTells j xs n)
+      (m' ≡ m) × ((xs : List (Seated I)) → m.0 ≡ as_places xs → length xs ≡ j.lines.places
+      → StopTells j xs n)

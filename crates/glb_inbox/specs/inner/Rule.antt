@@ -1,5 +1,6 @@
 -- The rule of the table of three words: live, items and stop.
-use Rattle.std.specs.Prelude.{◌≡◌, ◌≢◌, ℕ, ◌+◌, ◌*◌, ◌≤◌, ◌<◌, ◌⊎◌, Bool, true, false, cond, List, [], ◌∷◌, length, Option, Some, None}
+use Rattle.std.specs.Prelude.{◌≡◌, ◌≢◌, ℕ, ◌+◌, ◌*◌, ◌≤◌, ◌<◌, ◌⊎◌, Bool, true, false, cond, List}
+use Rattle.std.specs.Prelude.{[], ◌∷◌, length, Option, Some, None}
 use Rattle.std.specs.List.{flat_map}
 use Rattle.atomic_table.specs.Table.{State}
 use Rattle.glb_laws.specs.Expansion.{Expansion}
@@ -17,7 +18,9 @@ use Rattle.glb_rules.specs.declared.kinds.Credit.TheVariants as credit
 use Rattle.glb_rules.specs.declared.params.Params.{Params}
 use Rattle.glb_place.specs.declared.record.Record.{Record}
 use Rattle.glb_place.specs.Records.{known_at}
-use Rattle.glb_inbox.specs.inner.Members.{total, Each, busy_when, idle_when, own_known, tally, places_in, requests, refusals, parcels, units_in, credits, by_place, above, done_in, left_in}
+use Rattle.glb_inbox.specs.inner.Members.{total, Each, busy_when, idle_when, own_known, tally}
+use Rattle.glb_inbox.specs.inner.Members.{places_in, requests, refusals, parcels, units_in, credits}
+use Rattle.glb_inbox.specs.inner.Members.{by_place, above, done_in, left_in}
 use Rattle.glb_inbox.specs.declared.view.Member.{Member}
 use Rattle.glb_inbox.specs.declared.view.Member.TheVariants.{Place, Request, Refusal, Parcel}
 
@@ -63,19 +66,23 @@ own_free awake r =
 pub record Sound {I : Type 0} (awake : ℕ → Bool) (r : Record I) : Type 0 where
   pub near : r.place < r.lines.places
   pub inner : Inner (own_setup awake r) r.place r.local
-  pub counted : Counted (own_setup awake r) r.place r.local (own_busy kind.Steal r) (own_busy kind.Line r)
+  pub counted : Counted (own_setup awake r) r.place r.local (own_busy kind.Steal r)
+      (own_busy kind.Line r)
       (own_free awake r)
   -- it never knows two of its own steal edges as other than Idle
   pub lone : own_busy kind.Steal r ≤ 1
   -- an edge that is not there is Idle
-  pub there : (k : Kind) (v : ℕ) → v < r.lines.places → has_edge (own_setup awake r) k r.place v ≡ false
+  pub there : (k : Kind) (v : ℕ) → v < r.lines.places → has_edge (own_setup awake r) k r.place v
+      ≡ false
       → known_at r.known k r.place v ≡ seen.Idle
   -- its steal edges are Idle unless it waits on them
   pub steal : (v : ℕ) → v < r.lines.places → r.local.phase ≢ phase.Gone
-      → waits_on kind.Steal v r.local.phase ≡ false → known_at r.known kind.Steal r.place v ≡ seen.Idle
+      → waits_on kind.Steal v r.local.phase ≡ false → known_at r.known kind.Steal r.place v
+      ≡ seen.Idle
   -- with credit Zero all its lines are armed, and its steal edges Idle
   pub armed : (v : ℕ) → v < r.lines.places → r.local.credit ≡ credit.Zero
-      → has_line (own_setup awake r) r.place v ≡ true → IsArmedWhen (known_at r.known kind.Line r.place v)
+      → has_line (own_setup awake r) r.place v ≡ true
+      → IsArmedWhen (known_at r.known kind.Line r.place v)
   pub quiet : (v : ℕ) → v < r.lines.places → r.local.credit ≡ credit.Zero
       → known_at r.known kind.Steal r.place v ≡ seen.Idle
   -- it left because live was 0 or stop was not
@@ -99,7 +106,8 @@ pub record Fits {I : Type 0} (j : Job I) (live items stop : ℕ) (r : Record I) 
   pub meets : Meets live items stop r
 
 abbrev pub Fine : {I : Type 0} → Job I → ℕ → ℕ → ℕ → Member I → Type 0
-Fine j live items stop (Place x) = Fits j live items stop x.kept × IfBefore (Fits j live items stop) x.before
+Fine j live items stop (Place x) = Fits j live items stop x.kept × IfBefore (Fits j live items stop)
+    x.before
 Fine j live items stop (Request k) = Unit {0}
 Fine j live items stop Refusal = Unit {0}
 Fine j live items stop (Parcel k xs) = 0 < length xs
@@ -108,26 +116,31 @@ Fine j live items stop (Parcel k xs) = 0 < length xs
 pub record Sums {I : Type 0} (j : Job I) (live items : ℕ) (ms : List (Member I)) : Type 0 where
   pub places : total places_in ms ≡ j.lines.places
   pub asks : total (tally (λ c. c.asks)) ms
-      ≡ total (requests kind.Steal) ms + total (tally (λ c. c.denied)) ms + total (tally (λ c. c.given)) ms
+      ≡ total (requests kind.Steal) ms + total (tally (λ c. c.denied)) ms + total
+      (tally (λ c. c.given)) ms
   pub lines : total (by_place (armed_at_start (setup j))) ms + total (tally (λ c. c.line_asks)) ms
       ≡ total (requests kind.Line) ms + total (tally (λ c. c.line_given)) ms
-  pub denied : total (tally (λ c. c.denied)) ms ≡ total refusals ms + total (tally (λ c. c.shrugs)) ms
-  pub given : total (tally (λ c. c.given)) ms ≡ total (parcels kind.Steal) ms + total (tally (λ c. c.got)) ms
+  pub denied : total (tally (λ c. c.denied)) ms ≡ total refusals ms + total (tally (λ c. c.shrugs))
+      ms
+  pub given : total (tally (λ c. c.given)) ms ≡ total (parcels kind.Steal) ms + total
+      (tally (λ c. c.got)) ms
   pub line_given : total (tally (λ c. c.line_given)) ms
       ≡ total (parcels kind.Line) ms + total (tally (λ c. c.line_got)) ms
-  pub units : total (tally (λ c. c.sent_units)) ms ≡ total units_in ms + total (tally (λ c. c.got_units)) ms
+  pub units : total (tally (λ c. c.sent_units)) ms ≡ total units_in ms + total
+      (tally (λ c. c.got_units)) ms
   pub live_is : live ≡ total credits ms
   pub items_are : items ≡ total (tally (λ c. c.items)) ms
 
-pub record Ruled {I : Type 0} (j : Job I) (live items stop : ℕ) (ms : List (Member I)) : Type 0 where
-  pub good : IsGoodJob j
-  pub sums : Sums j live items ms
-  pub each : Each (Fine j live items stop) ms
-  pub expansion : Expansion j.children j.roots (flat_map done_in ms) (flat_map left_in ms)
-  -- a place whose last total was above the limit settles no more
-  pub small : items ≤ j.params.limit + j.params.batch * total (above j.params.limit) ms
-  pub cause : stop ≡ 1 → j.params.limit < items
-  pub codes : stop ≤ 2
+pub record Ruled {I : Type 0} (j : Job I) (live items stop : ℕ) (ms : List (Member I)) : Type 0
+  where
+    pub good : IsGoodJob j
+    pub sums : Sums j live items ms
+    pub each : Each (Fine j live items stop) ms
+    pub expansion : Expansion j.children j.roots (flat_map done_in ms) (flat_map left_in ms)
+    -- a place whose last total was above the limit settles no more
+    pub small : items ≤ j.params.limit + j.params.batch * total (above j.params.limit) ms
+    pub cause : stop ≡ 1 → j.params.limit < items
+    pub codes : stop ≤ 2
 
 -- all members of all views
 abbrev pub members : {I : Type 0} → List (List (Member I)) → List (Member I)

@@ -8,4 +8,5 @@ returns-clause-closes g c = λ xs is all.
     let j = job_of g.P.Program.children g.B.Bag.items c.args.words.now.key in
     let one = ap (λ m. m.0) c.read_live-live.ensures.me ∙ is in
     let two = ap (λ m. m.0) c.read_items-items.ensures.me ∙ one in
-    closes j xs _ _ _ (c.read_live-live.ensures.told xs is all) (c.read_items-items.ensures.told xs one all) (c.read_stop-stop.ensures.told xs two all)
+    closes j xs _ _ _ (c.read_live-live.ensures.told xs is all)
+    (c.read_items-items.ensures.told xs one all) (c.read_stop-stop.ensures.told xs two all)

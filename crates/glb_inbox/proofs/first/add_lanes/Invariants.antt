@@ -7,4 +7,5 @@ use Rattle.glb_inbox.proofs.first.add_lanes.Given as goal
 abbrev pub invariant-loop-other : goal.invariant-loop-other
 invariant-loop-other g l =
     l.lanes.items ≡ l.initial.lanes.items
-    ++ map (first_lane l.lines (λ p. has_items (get_or (map g.B.Bag.items l.bags) p [])) l.place l.kind) (range_with_len 0 l.other)
+    ++ map (first_lane l.lines (λ p. has_items (get_or (map g.B.Bag.items l.bags) p [])) l.place
+    l.kind) (range_with_len 0 l.other)

@@ -9,6 +9,8 @@ loop-place-preserved g c =
     let I = c.loop-place.invariant in
     record {
       inboxes = c.in_ok-way.ensures.inboxes;
-      ways = subst (AreWays w.table_id w.key.program.value (c.loop-place.place + 1)) (sym c.in_ok-push.ensures.items)
-          (ways_more c.loop-place.place c.loop-place.ways.items I.ways c.in_ok-way.way c.in_ok-way.ensures.way);
+      ways = subst (AreWays w.table_id w.key.program.value (c.loop-place.place + 1))
+          (sym c.in_ok-push.ensures.items)
+          (ways_more c.loop-place.place c.loop-place.ways.items I.ways c.in_ok-way.way
+          c.in_ok-way.ensures.way);
     }

@@ -10,7 +10,8 @@ fetch_add-requires g c =
       search rules,
       search rules,
       rw c.requires.leaves
-          (may_settle j (g.P.Program.value k.program.value) g.P.Value.Monoid.unit g.P.Value.Monoid.combine _ _ _ _ _ c.args.gain.now _
+          (may_settle j (g.P.Program.value k.program.value) g.P.Value.Monoid.unit
+          g.P.Value.Monoid.combine _ _ _ _ _ c.args.gain.now _
           (record { tells = λ bag taken t. (c.requires.takes bag taken).1 t }) c.requires.ready),
     )
 

@@ -1,21 +1,35 @@
 use Rattle.glb_rules.specs.declared.kinds.Kind.TheVariants as kinds
 use Rattle.std.proofs.Common.{arith}
 use Rattle.glb_inbox.proofs.LaneLemmas.{lane_is, lanes_set, knows_as_before}
+use Rattle.glb_rules.specs.declared.kinds.Edge.TheVariants as seen
+use Rattle.glb_rules.specs.declared.kinds.Side.TheVariants as side
+use Rattle.glb_inbox.proofs.Hearing.{receives_one}
 use Rattle.glb_inbox.proofs.lanes.keep_line_refusal.Goals as goal
 
 pub returns-clause-lanes : goal.returns-clause-lanes
 returns-clause-lanes g c =
-    lanes_set c.args.places c.args.lanes.now.items c.requires.lanes kinds.Line c.args.victim c.lane_index-i.result c.keep_line_refusal.new.lane
+    lanes_set c.args.places c.args.lanes.now.items c.requires.lanes kinds.Line c.args.victim
+    c.lane_index-i.result c.keep_line_refusal.new.lane
     c.requires.near.0 c.lane_index-i.ensures.at c.keep_line_refusal.ensures.lane
 
 pub keep_line_refusal-requires : goal.keep_line_refusal-requires
 keep_line_refusal-requires g c = record {
-  lane = lane_is c.args.places c.args.lanes.now.items c.requires.lanes kinds.Line c.args.victim c.lane_index-i.result c.index_mut.result.now
+  lane = lane_is c.args.places c.args.lanes.now.items c.requires.lanes kinds.Line c.args.victim
+      c.lane_index-i.result c.index_mut.result.now
       c.requires.near.0 c.lane_index-i.ensures.at c.index_mut.ensures.value;
 }
 
 pub returns-clause-known : goal.returns-clause-known
 returns-clause-known g c =
     let k = c.keep_line_refusal.ensures.known in
-    knows_as_before c.args.lanes.now.items c.lane_index-i.result c.keep_line_refusal.new.lane c.index_mut.result.now (let a = c.lane_index-i.ensures.within in let b = c.requires.lanes.wide in omega arith)
+    knows_as_before c.args.lanes.now.items c.lane_index-i.result c.keep_line_refusal.new.lane
+    c.index_mut.result.now (let a = c.lane_index-i.ensures.within in let b =
+    c.requires.lanes.wide in omega arith)
     c.index_mut.ensures.value k.inward k.outward
+
+pub returns-clause-receives : goal.returns-clause-receives
+returns-clause-receives g c =
+    receives_one c.args.places c.args.lanes.now.items kinds.Line c.args.victim c.lane_index-i.result
+    c.keep_line_refusal.new.lane c.index_mut.result.now side.Outward seen.Refused c.requires.near.0
+    c.requires.lanes.wide c.lane_index-i.ensures.at c.index_mut.ensures.value tt
+    c.keep_line_refusal.ensures.hears

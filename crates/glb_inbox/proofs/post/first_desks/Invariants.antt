@@ -13,5 +13,7 @@ invariant-loop-place g l =
       left : l.dealer.me.0 ≡ drop l.place (first_members g.P.Program.children g.B.Bag.items s.key);
       inboxes : AreWays s.table_id s.key.program.value s.key.lines.value.places l.inboxes.items;
       many : length l.desks.items ≡ l.place;
-      begun : (p : ℕ) (d : DeskView _ _) → p < length l.desks.items → IsBegun g.P.Program.children g.B.Bag.items s.table_id s.key p (get_or l.desks.items p d);
+      begun : (p : ℕ) (d : DeskView _ _) → p < length l.desks.items
+          → IsBegun g.P.Program.children g.B.Bag.items s.table_id s.key p
+          (get_or l.desks.items p d);
     }

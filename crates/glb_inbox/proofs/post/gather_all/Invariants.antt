@@ -8,8 +8,10 @@ invariant-loop-desk g l = record {
   table : l.all.table_id ≡ l.words.table_id;
   free : l.all.me.1 ≡ [];
   rest : All (λ d. d.home.table.table_id ≡ l.words.table_id) l.desks.items;
-  places : (xs : List (Seated _)) × (l.all.me.0 ≡ as_places xs) × (map (λ d. d.kept) l.desks.items ++ map kept_of xs ≡ map (λ d. d.kept) l.fn.desks.items);
-  numbers : All (λ d. d.kept.place ≡ d.home.place) l.desks.items → All (λ d. d.kept.place ≡ d.home.place) l.fn.desks.items;
+  places : (xs : List (Seated _)) × (l.all.me.0 ≡ as_places xs)
+      × (map (λ d. d.kept) l.desks.items ++ map kept_of xs ≡ map (λ d. d.kept) l.fn.desks.items);
+  numbers : All (λ d. d.kept.place ≡ d.home.place) l.desks.items
+      → All (λ d. d.kept.place ≡ d.home.place) l.fn.desks.items;
 }
 
 abbrev pub decreases-loop-desk : goal.decreases-loop-desk

@@ -1,7 +1,7 @@
 use Rattle.std.proofs.Common.{◌≡◌, ◌≢◌, ◌+◌, ◌++◌, refl, sym, ap, ◌∙◌}
 use Rattle.glb_rules.specs.Events.{name_of}
 use Rattle.glb_rules.specs.declared.kinds.Edge.TheVariants as seen
-use Rattle.glb_inbox.specs.inner.Books.{kept_of}
+use Rattle.glb_inbox.specs.Viewing.{kept_of}
 use Rattle.glb_rules.specs.Effects.{of_kind}
 use Rattle.glb_rules.specs.World.{units_of}
 use Rattle.glb_core.specs.Counters.{counters_of}
@@ -11,7 +11,8 @@ use Rattle.glb_place.specs.Rows.{take_row, known_row}
 use Rattle.glb_inbox.specs.inner.Acts.{items_in}
 use Rattle.glb_inbox.specs.inner.Views.{joined}
 use Rattle.glb_inbox.proofs.SoundThief.{like_loot}
-use Rattle.glb_inbox.proofs.BookLemmas.{books_moved, moved_by, out_of, lanes_of, near, mirrors_row, apart_from}
+use Rattle.glb_inbox.proofs.BookLemmas.{books_moved, moved_by, out_of, lanes_of, near, mirrors_row}
+use Rattle.glb_inbox.proofs.BookLemmas.{apart_from}
 use Rattle.glb_inbox.proofs.trades.take.Goals as goal
 
 pub returns-clause-books : goal.returns-clause-books
@@ -32,11 +33,13 @@ returns-clause-books g c =
     let units = c.len.ensures ∙ ap units_of (sym is) in
     let wake = c.phase_of-phase.ensures ∙ A.asleep in
     books_moved A _ row
-    (moved_by row (λ x. joined (row x.kept) x) (λ x. refl) c.args.books.now.seat.me _ A.alone c.get.ensures.moved)
+    (moved_by row (λ x. joined (row x.kept) x) (λ x. refl) c.args.books.now.seat.me _ A.alone
+    c.get.ensures.moved)
     c.get.ensures.table.0 refl refl refl refl
     (lanes_of A c.args.places new e c.take_part-part.ensures.lanes)
     (mirrors_row A new (known_row (name_of k r.place v) seen.Idle r) (row r) refl refl refl refl
-    (out_of A c.args.places new k v seen.Idle e (near A c.args.places v e m.1.2) d c.take_part-part.ensures.sets))
+    (out_of A c.args.places new k v seen.Idle e (near A c.args.places v e m.1.2) d
+    c.take_part-part.ensures.sets))
     (c.count_got.ensures r.local.count A.counted ∙ (λ i. counters_of (record (r.local.count) {
       got = r.local.count.got + of_kind k 1 0;
       line_got = r.local.count.line_got + of_kind k 0 1;

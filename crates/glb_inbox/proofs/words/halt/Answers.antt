@@ -4,4 +4,9 @@ use Rattle.glb_inbox.proofs.Calls.{may_halt}
 use Rattle.glb_inbox.proofs.words.halt.Goals as goal
 
 pub fetch_max-requires : goal.fetch_max-requires
-fetch_max-requires g c = (search rules, search rules, may_halt (job_of g.P.Program.children g.B.Bag.items c.args.words.now.key) _ _ _ _ c.requires.ready)
+fetch_max-requires g c = (
+  search rules,
+  search rules,
+  may_halt (job_of g.P.Program.children g.B.Bag.items c.args.words.now.key) _ _ _ _
+      c.requires.ready,
+)

@@ -4,4 +4,9 @@ use Rattle.glb_inbox.proofs.Calls.{may_stop}
 use Rattle.glb_inbox.proofs.words.halted.Goals as goal
 
 pub load-requires : goal.load-requires
-load-requires g c = (search rules, search rules, may_stop (job_of g.P.Program.children g.B.Bag.items c.args.words.now.key) _ _ _ c.requires.ready)
+load-requires g c = (
+  search rules,
+  search rules,
+  may_stop (job_of g.P.Program.children g.B.Bag.items c.args.words.now.key) _ _ _
+      c.requires.ready,
+)

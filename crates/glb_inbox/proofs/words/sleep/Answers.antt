@@ -4,4 +4,9 @@ use Rattle.glb_inbox.proofs.Calls.{may_sleep}
 use Rattle.glb_inbox.proofs.words.sleep.Goals as goal
 
 pub fetch_sub-requires : goal.fetch_sub-requires
-fetch_sub-requires g c = (search rules, search rules, may_sleep (job_of g.P.Program.children g.B.Bag.items c.args.words.now.key) _ _ _ c.requires.ready)
+fetch_sub-requires g c = (
+  search rules,
+  search rules,
+  may_sleep (job_of g.P.Program.children g.B.Bag.items c.args.words.now.key) _ _ _
+      c.requires.ready,
+)

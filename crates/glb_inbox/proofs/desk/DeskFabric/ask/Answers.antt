@@ -1,5 +1,5 @@
 use Rattle.std.specs.Arc.{arc_value}
-use Rattle.glb_inbox.specs.inner.Desks.{desk_view}
+use Rattle.glb_inbox.specs.Viewing.{desk_view}
 use Rattle.std.proofs.Common.{◌≡◌, ◌*◌, length, ap, subst, arith}
 use Rattle.std.proofs.Math.ListN.{length-set}
 use Rattle.glb_place.specs.Looks.{SameLooks}
@@ -13,8 +13,12 @@ returns-clause-looks g c =
     let V = c.self.invariant in
     let n = length c.self.inside.ways.items in
     let t = ap (λ (t : _). t.shared.key.lines.value.places) c.deref-table.ensures in
-    let w : length b.lanes.items ≡ 2 * n = (let a = V.books.lanes.wide in let d = V.all_ways.all in omega arith) in
-    let v : length c.ask.new.books.lanes.items ≡ 2 * n = (let a = c.ask.ensures.books.lanes.wide in let d = V.all_ways.all in omega arith) in
+    let w : length b.lanes.items ≡ 2 * n =
+    (let a = V.books.lanes.wide in let d = V.all_ways.all in omega arith) in
+    let v : length c.ask.new.books.lanes.items ≡ 2 * n =
+    (let a = c.ask.ensures.books.lanes.wide in let d = V.all_ways.all in omega arith) in
     let id = (arc_value c.self.inside.words).shared.table_id in
     let q = (arc_value c.self.inside.words).shared.key.program.value in
-    same_looks_put _ id q n _ c.ask.new.books (length-set _ _ _) (subst (λ d. SameLooks (looks_of d) (looks_of (desk_view id q n c.ask.new.books))) c.self.view_is (same_looks id q n b c.ask.new.books w v c.ask.ensures.stay))
+    same_looks_put _ id q n _ c.ask.new.books (length-set _ _ _)
+    (subst (λ d. SameLooks (looks_of d) (looks_of (desk_view id q n c.ask.new.books)))
+    c.self.view_is (same_looks id q n b c.ask.new.books w v c.ask.ensures.stay))

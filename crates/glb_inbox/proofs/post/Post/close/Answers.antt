@@ -17,10 +17,15 @@ returns-clause-closes g c =
     let some = c.self.invariant.some in
     let r = c.read_all.result in
     let all = many g.P.Program.children g.B.Bag.items s.key s.table_id ds D N G.0 G.2 some in
-    let C = subst (λ t. (length G.0 ≡ t.shared.key.lines.value.places → Closes (job_of g.P.Program.children g.B.Bag.items t.shared.key) G.0 r.live r.items r.stop)) c.deref-table.ensures
+    let C = subst (λ t. (length G.0 ≡ t.shared.key.lines.value.places
+    → Closes (job_of g.P.Program.children g.B.Bag.items t.shared.key) G.0 r.live r.items
+    r.stop)) c.deref-table.ensures
     (c.read_all.ensures.closes G.0 G.1) all in
-    subst (λ v. PlacesClose (g.P.Program.children v.program) (all_degrees (setup_at v)) (all_awake (setup_at v)) v.params.limit (roots_at v) (map (λ d. d.kept) ds) r.live r.items r.stop) c.self.view_is
-    (post_closes g.P.Program.children g.B.Bag.items s.key s.table_id ds D N G.0 G.2 some r.live r.items r.stop C)
+    subst (λ v. PlacesClose (g.P.Program.children v.program) (all_degrees (setup_at v))
+    (all_awake (setup_at v)) v.params.limit (roots_at v) (map (λ d. d.kept) ds) r.live r.items
+    r.stop) c.self.view_is
+    (post_closes g.P.Program.children g.B.Bag.items s.key s.table_id ds D N G.0 G.2 some r.live
+    r.items r.stop C)
 
 pub returns-clause-records : goal.returns-clause-records
 returns-clause-records g c =
@@ -32,7 +37,10 @@ returns-clause-records g c =
     let some = c.self.invariant.some in
     let r = c.read_all.result in
     let all = many g.P.Program.children g.B.Bag.items s.key s.table_id ds D N G.0 G.2 some in
-    let C = subst (λ t. (length G.0 ≡ t.shared.key.lines.value.places → Closes (job_of g.P.Program.children g.B.Bag.items t.shared.key) G.0 r.live r.items r.stop)) c.deref-table.ensures
+    let C = subst (λ t. (length G.0 ≡ t.shared.key.lines.value.places
+    → Closes (job_of g.P.Program.children g.B.Bag.items t.shared.key) G.0 r.live r.items
+    r.stop)) c.deref-table.ensures
     (c.read_all.ensures.closes G.0 G.1) all in
     subst (λ v. AreNumbered v.lines v.params (map (λ d. d.kept) ds)) c.self.view_is
-    (post_numbered g.P.Program.children g.B.Bag.items s.key s.table_id ds D N G.0 G.2 some r.live r.items r.stop C)
+    (post_numbered g.P.Program.children g.B.Bag.items s.key s.table_id ds D N G.0 G.2 some r.live
+    r.items r.stop C)
