@@ -10,7 +10,7 @@ use std::test::Fail;
 use std::thread::Threads;
 
 /// Runs the words of a line over no text, with this gate.
-fn run_at<R: Threads + Wait + Abort + Sync, G: Gate + Sync>(
+pub(super) fn run_at<R: Threads + Wait + Abort + Sync, G: Gate + Sync>(
     rt: &R,
     alloc: Global,
     line: &str,
@@ -67,7 +67,7 @@ fn a_job_runs_on_several_threads(rt: HostRuntime) -> Result<(), Fail> {
 }
 
 /// Commands on threads, each with the one that gives the same report in one bag.
-const ALIKE: [(&str, &str); 6] = [
+const ALIKE: [(&str, &str); 5] = [
     ("queens 6 --driver threads --places 8 --batch 1", "queens 6"),
     (
         "queens 6 --driver threads --fabric inbox --places 8 --batch 1",
@@ -85,7 +85,6 @@ const ALIKE: [(&str, &str); 6] = [
         "uts 2000 4 483183820 7 --driver threads --fabric inbox",
         "uts 2000 4 483183820 7",
     ),
-    ("trial 7 --driver threads --places 3", "trial 7"),
 ];
 
 #[test]
