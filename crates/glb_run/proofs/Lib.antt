@@ -11,3 +11,4 @@ pub mod SmallFacts
 pub mod TurnsFacts
 pub mod ThreadsFacts
 pub mod TrialFacts
+pub mod PairFacts

@@ -23,7 +23,7 @@ use std::sync::Wait;
 use std::thread::Threads;
 
 /// A stand for each berth, in order.
-fn stands_of<'a, P: Program, B: Bag<P>>(
+pub(crate) fn stands_of<'a, P: Program, B: Bag<P>>(
     alloc: Global,
     cells: &'a Cells<P, B>,
     berths: Vec<Berth<P, B>>,
@@ -40,7 +40,7 @@ fn stands_of<'a, P: Program, B: Bag<P>>(
 }
 
 /// The berth of each stand, in order.
-fn berths_of<'a, P: Program, B: Bag<P>>(
+pub(crate) fn berths_of<'a, P: Program, B: Bag<P>>(
     alloc: Global,
     stands: Vec<Stand<'a, P, B>>,
 ) -> Result<Vec<Berth<P, B>>, NoMemory>

@@ -28,7 +28,7 @@ pub(crate) struct Played<V, F> {
 }
 
 /// A place for each bag and fabric, in order.
-fn places_of<P: Program, B: Bag<P>, F: Fabric<P, B>>(
+pub(crate) fn places_of<P: Program, B: Bag<P>, F: Fabric<P, B>>(
     alloc: Global,
     program: &P,
     params: &Params,

@@ -1,10 +1,12 @@
 mod bags;
 mod listed;
+mod pairs;
 mod places;
 mod refusals;
 mod refused;
 mod reports;
 mod script;
+mod spare;
 mod spread;
 mod streams;
 mod threads;

@@ -15,7 +15,7 @@ use std::thread::Threads;
 
 /// Refuses the board with one queen, in column 0, or none.
 #[derive(Clone, Copy, Drop)]
-struct RefusesCorner(bool);
+pub(super) struct RefusesCorner(bool);
 
 impl Refuses<Board> for RefusesCorner {
     fn refuses(&self, item: &Board) -> bool {
@@ -23,9 +23,9 @@ impl Refuses<Board> for RefusesCorner {
     }
 }
 
-type ShyQueens = Shy<Queens, RefusesCorner>;
+pub(super) type ShyQueens = Shy<Queens, RefusesCorner>;
 
-type Bags = ShyBag<ListBag<ShyQueens>>;
+pub(super) type Bags = ShyBag<ListBag<ShyQueens>>;
 
 type Run = Result<Report<SatSum>, RunFault>;
 
@@ -38,7 +38,7 @@ const CASES: [(bool, bool, bool); 3] = [
 
 const FABRICS: [FabricKind; 2] = [FabricKind::Inbox, FabricKind::Cells];
 
-fn shy_queens(case: (bool, bool, bool)) -> ShyQueens {
+pub(super) fn shy_queens(case: (bool, bool, bool)) -> ShyQueens {
     let (batch, split, merge) = case;
     Shy {
         inner: Queens::new(4),
