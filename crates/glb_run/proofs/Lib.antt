@@ -11,4 +11,5 @@ pub mod SmallFacts
 pub mod TurnsFacts
 pub mod ThreadsFacts
 pub mod TrialFacts
+pub mod HandFacts
 pub mod PairFacts

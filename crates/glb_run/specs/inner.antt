@@ -4,3 +4,4 @@ pub mod Answers
 pub mod Draws
 pub mod Tasks
 pub mod CellRuns
+pub mod Hands

@@ -1,4 +1,5 @@
 mod bags;
+mod hand;
 mod listed;
 mod pairs;
 mod places;
@@ -13,6 +14,7 @@ mod threads;
 mod top_threads;
 mod trials;
 mod turns;
+mod two_places;
 
 use super::{Status, top_calm};
 use glb_io::{CalmSource, MemSink, Source};
