@@ -88,7 +88,7 @@ fn the_limit_is_on_the_trees_of_the_children(rt: HostRuntime) -> Result<(), Fail
 fn a_trial_tells_of_two_forests(rt: HostRuntime) -> Result<(), Fail> {
     let report =
         "trial 7\nreport 2\nuts 2000 4 483183820 7\nroots 2000\nitems 18360\nnodes 18360\nleaves 14270\ndepth 38\nreport 2\ndist 1000 5000\nroots 1000\nitems 1000\npairs 987050\nsum 4435905\ngreatest 11\n";
-    for options in DRIVERS {
+    for options in ["", " --driver threads"] {
         let left = run_spread(&rt, rt.alloc(), "trial 7", options, "")?;
         assert_eq!(rt; left.status, Status::Done, "{options}");
         assert_eq!(rt; left.out.bytes(), report.as_bytes(), "{options}");
