@@ -3,24 +3,29 @@ ghost use Rattle.std.specs.Prelude.{◌≡◌};
 
 use crate::gate::Gate;
 use glb_laws::{NoMemory, Program, Ranged};
-use std::marker::Model;
+use std::alloc::AllocError;
 
-/// A program that passes a gate once before each expansion. Contracts see the program in it.
+/// A program that passes a gate once before each expansion. It means what the program in it means.
 #[derive(Drop)]
 pub struct Gated<'a, P: Program, G: Gate> {
     inner: P,
     gate: &'a G,
 }
 
-impl<'a, P: Program, G: Gate> Model for Gated<'a, P, G> {
-    ghost Value = { P };
-
-    ghost view = { λ gated. gated.inner };
+impl<'a, P: Program + Copy, G: Gate> Clone for Gated<'a, P, G> {
+    fn clone(&self) -> Result<Self, AllocError> {
+        Ok(Gated {
+            inner: self.inner,
+            gate: self.gate,
+        })
+    }
 }
+
+impl<'a, P: Program + Copy, G: Gate> Copy for Gated<'a, P, G> {}
 
 impl<'a, P: Program, G: Gate> Gated<'a, P, G> {
     pub fn new(inner: P, gate: &'a G) -> Gated<'a, P, G>
-        ensures { result ≡ inner }
+        ensures { result.inner ≡ inner }
     {
         Gated { inner, gate }
     }
@@ -31,11 +36,11 @@ impl<'a, P: Program, G: Gate> Program for Gated<'a, P, G> {
 
     type Value = P::Value;
 
-    ghost children = { P.children };
+    ghost children = { λ gated x. P.children gated.inner x };
 
-    ghost value = { P.value };
+    ghost value = { λ gated x. P.value gated.inner x };
 
-    ghost value_proper = { P.value_proper };
+    ghost value_proper = { λ gated x. P.value_proper gated.inner x };
 
     fn expand(&self, item: &P::Item, out: &mut Vec<P::Item>) -> Result<P::Value, NoMemory> {
         self.gate.pass();

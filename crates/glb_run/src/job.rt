@@ -15,7 +15,7 @@ use super::drivers::run_calmly;
 use super::order::Order;
 use super::report_bytes::{dist_bytes, queens_bytes, trial_bytes, uts_bytes};
 use super::trial::{TREE_B0, TREE_M, TREE_Q, trial_graph};
-use glb_bags::ListBag;
+use glb_bags::{ListBag, RangeBag};
 use glb_graph::{Dist, Graph};
 use glb_laws::Bag;
 use glb_queens::Queens;
@@ -49,7 +49,7 @@ fn queens_report<B: Bag<Queens>>(alloc: Global, n: u32, order: &Order) -> Result
 
 /// The tree of the four numbers of `uts`: the children of the root and of other nodes, how often
 /// there are any, and the seed.
-fn uts_report<B: Bag<Uts>>(
+pub(crate) fn uts_report<B: Bag<Uts>>(
     alloc: Global,
     numbers: (u32, u32, u32, u32),
     order: &Order,
@@ -69,7 +69,7 @@ fn uts_report<B: Bag<Uts>>(
     uts_bytes(alloc, numbers, order, outcome)
 }
 
-fn dist_report<'a, B: Bag<Dist<'a>>>(
+pub(crate) fn dist_report<'a, B: Bag<Dist<'a>>>(
     alloc: Global,
     graph: &'a Graph,
     order: &Order,
@@ -95,12 +95,12 @@ fn trial_report(alloc: Global, k: u32, order: &Order) -> Result<Vec<u8>, RunFaul
     ensures report { IfOk result (λ bytes. IsTrialReport k order.now bytes.items) }
     ensures stops { IfErr result (StopsTrial k order.now) }
 {
-    let tree = match uts_report::<ListBag<Uts>>(alloc, (TREE_B0, TREE_M, TREE_Q, k), order) {
+    let tree = match uts_report::<RangeBag<Uts>>(alloc, (TREE_B0, TREE_M, TREE_Q, k), order) {
         Ok(bytes) => bytes,
         Err(fault) => return Err(fault),
     };
     let graph = trial_graph(alloc, k)?;
-    let distances = match dist_report::<ListBag<Dist>>(alloc, &graph, order) {
+    let distances = match dist_report::<RangeBag<Dist>>(alloc, &graph, order) {
         Ok(bytes) => bytes,
         Err(fault) => return Err(fault),
     };
@@ -118,9 +118,9 @@ pub(crate) fn report_calm(alloc: Global, task: &Task, order: &Order) -> Result<V
     match task {
         Task::Queens { n } => queens_report::<ListBag<Queens>>(alloc, *n, order),
         Task::Uts { b0, m, q, seed } => {
-            uts_report::<ListBag<Uts>>(alloc, (*b0, *m, *q, *seed), order)
+            uts_report::<RangeBag<Uts>>(alloc, (*b0, *m, *q, *seed), order)
         }
-        Task::Dist { graph } => dist_report::<ListBag<Dist>>(alloc, graph, order),
+        Task::Dist { graph } => dist_report::<RangeBag<Dist>>(alloc, graph, order),
         Task::Trial { k } => trial_report(alloc, *k, order),
     }
 }

@@ -18,7 +18,7 @@ use super::job::{Task, report_calm};
 use super::order::Order;
 use super::report_bytes::{dist_bytes, queens_bytes, trial_bytes, uts_bytes};
 use super::trial::{TREE_B0, TREE_M, TREE_Q, trial_graph};
-use glb_bags::ListBag;
+use glb_bags::{ListBag, RangeBag};
 use glb_graph::{Dist, Graph};
 use glb_queens::Queens;
 use glb_tree::RunFault;
@@ -74,7 +74,7 @@ fn uts_in_threads<'a, R: Threads + Wait + Sync, G: Gate + Sync>(
     let tree = Uts::new(b0, m, q, seed);
     let root = tree.root();
     let gated = Gated::new(tree, gate);
-    let outcome = match run_in_threads::<R, Gated<'a, Uts, G>, ListBag<Gated<'a, Uts, G>>>(
+    let outcome = match run_in_threads::<R, Gated<'a, Uts, G>, RangeBag<Gated<'a, Uts, G>>>(
         rt, alloc, &gated, root, order,
     ) {
         Ok(outcome) => outcome,
@@ -102,7 +102,7 @@ fn dist_in_threads<'a, R: Threads + Wait + Sync, G: Gate + Sync>(
     let outcome = match run_in_threads::<
         R,
         Gated<'a, Dist<'a>, G>,
-        ListBag<Gated<'a, Dist<'a>, G>>,
+        RangeBag<Gated<'a, Dist<'a>, G>>,
     >(rt, alloc, &gated, root, order)
     {
         Ok(outcome) => outcome,

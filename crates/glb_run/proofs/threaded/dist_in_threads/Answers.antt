@@ -11,7 +11,7 @@ use Rattle.glb_run.proofs.threaded.dist_in_threads.Goals as goal
 
 pub run_in_threads-requires-clause-few : goal.run_in_threads-requires-clause-few
 run_in_threads-requires-clause-few g c κs within =
-    let rows = c.new-gated.result.graph.now in
+    let rows = c.new-gated.result.inner.graph.now in
     subst (λ s. length (spot_children rows s) ≤ 100000) (sym c.root-root.ensures)
     (few_spots rows
     (subst (λ (r : List (List ℕ)). length r ≤ 20000)
@@ -26,7 +26,7 @@ dist_bytes-requires g c =
     run.report.items run.report.value run.report.counters.items run.roots.items in
     subst (λ rows. Answers rows Root)
     (ap (λ (d : Dist). d.graph.now) c.new-gated.ensures ∙ c.new-distances.ensures)
-    (subst (Answers c.new-gated.result.graph.now) c.root-root.ensures c.in-Ok.ensures.run)
+    (subst (Answers c.new-gated.result.inner.graph.now) c.root-root.ensures c.in-Ok.ensures.run)
 
 pub returns-in-Err-clause-stops : goal.returns-in-Err-clause-stops
 returns-in-Err-clause-stops g c =
@@ -34,4 +34,4 @@ returns-in-Err-clause-stops g c =
     StopsRun (spot_children rows) root c.args.order.now c.in-Err.fault in
     subst (λ rows. Stops rows Root)
     (ap (λ (d : Dist). d.graph.now) c.new-gated.ensures ∙ c.new-distances.ensures)
-    (subst (Stops c.new-gated.result.graph.now) c.root-root.ensures c.in-Err.ensures.stops)
+    (subst (Stops c.new-gated.result.inner.graph.now) c.root-root.ensures c.in-Err.ensures.stops)

@@ -13,7 +13,7 @@ use Rattle.glb_run.proofs.threaded.uts_in_threads.Goals as goal
 
 pub run_in_threads-requires-clause-few : goal.run_in_threads-requires-clause-few
 run_in_threads-requires-clause-few g c κs within =
-    few_nodes c.new-gated.result c.root-root.result c.root-root.ensures.root
+    few_nodes c.new-gated.result.inner c.root-root.result c.root-root.ensures.root
     (subst (λ (t : Uts). t.b0 ≤ 100000) (sym c.new-gated.ensures)
     (subst (λ b. b ≤ 100000) (sym c.new-tree.ensures.b0) c.requires.numbers.0))
 
@@ -32,7 +32,7 @@ uts_bytes-requires g c =
     IsAnswer (children t) (value_of t) join_tallies no_tallies u c.args.order.now run.report.items
     run.report.value run.report.counters.items run.roots.items in
     subst (λ t. Answers t (root_of n.3)) (c.new-gated.ensures ∙ tree)
-    (subst (Answers c.new-gated.result) root c.in-Ok.ensures.run)
+    (subst (Answers c.new-gated.result.inner) root c.in-Ok.ensures.run)
 
 pub returns-in-Err-clause-stops : goal.returns-in-Err-clause-stops
 returns-in-Err-clause-stops g c =
@@ -47,4 +47,4 @@ returns-in-Err-clause-stops g c =
     let Stops : Uts → Node → Type 0 = λ t u.
     StopsRun (children t) u c.args.order.now c.in-Err.fault in
     subst (λ t. Stops t (root_of n.3)) (c.new-gated.ensures ∙ tree)
-    (subst (Stops c.new-gated.result) root c.in-Err.ensures.stops)
+    (subst (Stops c.new-gated.result.inner) root c.in-Err.ensures.stops)
