@@ -1,10 +1,10 @@
 //! What is split off: the first half of the entries, or of the only range, with what is made of it.
-ghost use Rattle.std.specs.Prelude.{◌≡◌, ◌<◌, ◌≤◌, ◌↔◌, length, drop, vec_len, OnErr};
+ghost use Rattle.std.specs.Prelude.{◌≡◌, ◌+◌, ◌<◌, ◌≤◌, ◌↔◌, length, drop, vec_len, OnErr};
 ghost use Rattle.std.specs.Prelude.{IfOk, IfSome, IfNone, IsNone};
 ghost use Rattle.glb_bags.specs.Ranges.{IsKept, all_items};
 ghost use Rattle.glb_bags.specs.inner.Entries.{IsCut};
 
-use super::entry::{Entry, count_made};
+use super::entry::{Entry, count_items, count_made};
 use glb_laws::{NoMemory, Program, Ranged};
 use std::alloc::AllocError;
 use std::mem;
@@ -132,4 +132,21 @@ where
         return Ok(None);
     }
     cut_range(program, entries, made)
+}
+
+/// How many items a part has, which was cut off so many.
+pub(crate) fn count_part<P: Ranged>(
+    _program: &P,
+    part: &Half<P::Item>,
+    _rest: &Vec<Entry<P::Item>>,
+    _count: u64,
+) -> u64
+where
+    P::Item: Copy,
+    requires kept { IsKept (P.children _program.now) part.now.entries.items part.now.made.items }
+    requires count { _count ≡ length (all_items (P.children _program.now) part.now.entries.items)
+        + length (all_items (P.children _program.now) _rest.now.items) }
+    ensures { result ≡ length (all_items (P.children _program.now) part.now.entries.items) }
+{
+    count_items(&part.entries)
 }

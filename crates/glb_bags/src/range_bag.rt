@@ -1,6 +1,6 @@
 //! A bag that keeps a parent with a range of child numbers in place of so many items. Children are
 //! made a little ahead, and taken in the same order as if each was made when its turn came.
-ghost use Rattle.std.specs.Prelude.{◌≡◌, ◌-◌, ◌^◌, ◌<◌, ◌≤◌, ◌↔◌, ◌++◌, List, [], ◌∷◌, length};
+ghost use Rattle.std.specs.Prelude.{◌≡◌, ◌+◌, ◌-◌, ◌^◌, ◌<◌, ◌≤◌, ◌↔◌, ◌++◌, List, [], ◌∷◌, length};
 ghost use Rattle.std.specs.Prelude.{OnErr, OnOk, IfErr, IfOk, IsTrue, IsPermutation};
 ghost use Rattle.std.specs.Prelude.{slice_index_or, vec_len};
 ghost use Rattle.glb_laws.specs.Expansion.{Expands};
@@ -8,8 +8,8 @@ ghost use Rattle.glb_bags.specs.Ranges.{IsKept, all_items};
 ghost use Rattle.glb_bags.specs.inner.LastItem.{TakesLast};
 
 use super::ahead::make_last;
-use super::entry::{Entry, all_children, count_items, push_some, take_last};
-use super::halves::{Half, cut_half};
+use super::entry::{Entry, all_children, push_some, take_last};
+use super::halves::{Half, count_part, cut_half};
 use glb_laws::{Bag, Monoid, NoMemory, Program, Ranged, Stopped};
 use std::alloc::Global;
 use std::marker::Model;
@@ -29,13 +29,16 @@ fn expand_last<P: Ranged>(
     entries: &mut Vec<Entry<P::Item>>,
     made: &mut Vec<P::Item>,
     asked: &mut Vec<(P::Item, u64)>,
+    count: &mut u64,
     acc: &mut P::Value,
 ) -> Result<(), NoMemory>
 where
     P::Item: Copy,
     requires kept { IsKept (P.children program.now) entries.old.items made.old.items }
     requires some { 0 < length entries.old.items }
+    requires count { count.old ≡ length (all_items (P.children program.now) entries.old.items) }
     ensures kept { IsKept (P.children program.now) entries.new.items made.new.items }
+    ensures count { count.new ≡ length (all_items (P.children program.now) entries.new.items) }
     ensures expanded { OnOk result
         (TakesLast (P.children program.now) (P.value program.now) P.Value.combine
         (all_items (P.children program.now) entries.old.items) acc.old
@@ -50,10 +53,14 @@ where
     let item = last_made(made);
     let value = program.weigh(&item)?;
     let fan = program.fan(&item);
+    let Some(more) = count.checked_add(fan) else {
+        return Err(NoMemory);
+    };
     entries.reserve(1)?;
     take_last(entries);
     let _item = made.pop();
     push_some(entries, all_children(item, fan));
+    *count = more.saturating_sub(1);
     *acc = acc.combine(&value);
     Ok(())
 }
@@ -65,13 +72,16 @@ fn expand_some<P: Ranged>(
     entries: &mut Vec<Entry<P::Item>>,
     made: &mut Vec<P::Item>,
     asked: &mut Vec<(P::Item, u64)>,
+    count: &mut u64,
     acc: &mut P::Value,
 ) -> Result<u64, Stopped>
 where
     P::Item: Copy,
     requires kept { IsKept (P.children program.now) entries.old.items made.old.items }
     requires some { 1 ≤ n }
+    requires count { count.old ≡ length (all_items (P.children program.now) entries.old.items) }
     ensures kept { IsKept (P.children program.now) entries.new.items made.new.items }
+    ensures count { count.new ≡ length (all_items (P.children program.now) entries.new.items) }
     ensures done { IfOk result (λ k.
         Expands (P.children program.now) (P.value program.now) P.Value.combine
         (all_items (P.children program.now) entries.old.items) acc.old k
@@ -90,23 +100,12 @@ where
 {
     let mut done = 0;
     while done < n && !entries.is_empty() {
-        match expand_last(program, entries, made, asked, acc) {
+        match expand_last(program, entries, made, asked, count, acc) {
             Ok(()) => done += 1,
             Err(_) => return Err(Stopped { done }),
         }
     }
     Ok(done)
-}
-
-/// Whether the entries have at least two items.
-fn has_two<P: Ranged>(_program: &P, entries: &Vec<Entry<P::Item>>, _made: &Vec<P::Item>) -> bool
-where
-    P::Item: Copy,
-    requires { IsKept (P.children _program.now) entries.now.items _made.now.items }
-    ensures { IsTrue result
-        ↔ (2 ≤ length (all_items (P.children _program.now) entries.now.items)) }
-{
-    count_items(entries) >= 2
 }
 
 /// Puts an item in.
@@ -123,6 +122,9 @@ where
     ensures added { OnOk result
         (IsPermutation (item ∷ all_items (P.children _program.now) entries.old.items)
         (all_items (P.children _program.now) entries.new.items)) }
+    ensures more { OnOk result
+        (length (all_items (P.children _program.now) entries.new.items)
+        ≡ length (all_items (P.children _program.now) entries.old.items) + 1) }
     ensures refused { IfErr result (λ e.
         (e.1 ≡ item) × (entries.new.items ≡ entries.old.items)) }
 {
@@ -139,18 +141,23 @@ where
     }
 }
 
-/// Puts the entries of another bag in.
+/// Puts the entries of another bag in, which have so many items more.
 fn merge_entries<P: Ranged>(
     _program: &P,
     entries: &mut Vec<Entry<P::Item>>,
     made: &mut Vec<P::Item>,
+    count: &mut u64,
     other: Half<P::Item>,
+    more: u64,
 ) -> Result<(), Half<P::Item>>
 where
     P::Item: Copy,
     requires kept { IsKept (P.children _program.now) entries.old.items made.old.items }
     requires other_kept { IsKept (P.children _program.now) other.entries.items other.made.items }
+    requires count { count.old ≡ length (all_items (P.children _program.now) entries.old.items) }
+    requires more { more ≡ length (all_items (P.children _program.now) other.entries.items) }
     ensures kept { IsKept (P.children _program.now) entries.new.items made.new.items }
+    ensures count { count.new ≡ length (all_items (P.children _program.now) entries.new.items) }
     ensures merged { OnOk result
         (IsPermutation (all_items (P.children _program.now) entries.old.items
         ++ all_items (P.children _program.now) other.entries.items)
@@ -159,6 +166,9 @@ where
         (e.entries.items ≡ other.entries.items) × (e.made.items ≡ other.made.items)) }
     ensures refused { OnErr result (entries.new.items ≡ entries.old.items) }
 {
+    let Some(all) = count.checked_add(more) else {
+        return Err(other);
+    };
     let mut other = other;
     match made.reserve(other.made.len()) {
         Ok(()) => {}
@@ -169,13 +179,16 @@ where
         Err(_) => return Err(other),
     }
     match made.append(&mut other.made) {
-        Ok(()) => Ok(()),
+        Ok(()) => {}
         Err(_) => unreachable!(),
     }
+    *count = all;
+    Ok(())
 }
 
 /// A bag of a program whose children are numbered. It takes the last item of the last entry first,
-/// and splits off the first half of the entries, or of the only range.
+/// and splits off the first half of the entries, or of the only range. More than 2^64 - 1 items are
+/// refused as memory is.
 #[derive(Drop)]
 pub struct RangeBag<P: Ranged + Copy>
 where
@@ -184,6 +197,8 @@ where
     program: P,
     entries: Vec<Entry<P::Item>>,
     made: Vec<P::Item>,
+    /// How many items the entries have.
+    count: u64,
     /// Room for the children that are asked for together.
     asked: Vec<(P::Item, u64)>,
 }
@@ -192,14 +207,15 @@ impl<P: Ranged + Copy> Model for RangeBag<P>
 where
     P::Item: Copy,
 {
-    ghost use Rattle.std.specs.Prelude.{List};
+    ghost use Rattle.std.specs.Prelude.{◌≡◌, List, length};
     ghost use Rattle.glb_bags.specs.Ranges.{all_items, IsKept};
 
     ghost Value = { P × List P.Item };
 
     ghost view = { λ b. (b.program, all_items (P.children b.program) b.entries.items) };
 
-    ghost invariant = { λ b. IsKept (P.children b.program) b.entries.items b.made.items };
+    ghost invariant = { λ b. IsKept (P.children b.program) b.entries.items b.made.items
+        × (b.count ≡ length (all_items (P.children b.program) b.entries.items)) };
 }
 
 impl<P: Ranged + Copy> Bag<P> for RangeBag<P>
@@ -215,20 +231,30 @@ where
             program: *program,
             entries: Vec::new(alloc),
             made: Vec::new(alloc),
+            count: 0,
             asked: Vec::new(alloc),
         }
     }
 
     fn len(&self) -> u64 {
-        count_items(&self.entries)
+        self.count
     }
 
     fn can_split(&self) -> bool {
-        has_two(&self.program, &self.entries, &self.made)
+        self.count >= 2
     }
 
     fn add(&mut self, item: P::Item) -> Result<(), (NoMemory, P::Item)> {
-        add_item(&self.program, &mut self.entries, &mut self.made, item)
+        let Some(count) = self.count.checked_add(1) else {
+            return Err((NoMemory, item));
+        };
+        match add_item(&self.program, &mut self.entries, &mut self.made, item) {
+            Ok(()) => {
+                self.count = count;
+                Ok(())
+            }
+            Err(refused) => Err(refused),
+        }
     }
 
     fn process(&mut self, _program: &P, n: u64, acc: &mut P::Value) -> Result<u64, Stopped> {
@@ -238,6 +264,7 @@ where
             &mut self.entries,
             &mut self.made,
             &mut self.asked,
+            &mut self.count,
             acc,
         )
     }
@@ -247,11 +274,14 @@ where
         let Some(part) = cut_half(&self.program, &mut self.entries, &mut self.made)? else {
             return Ok(None);
         };
+        let count = count_part(&self.program, &part, &self.entries, self.count);
+        self.count = self.count.saturating_sub(count);
         let Half { entries, made } = part;
         Ok(Some(RangeBag {
             program: self.program,
             entries,
             made,
+            count,
             asked: Vec::new(alloc),
         }))
     }
@@ -261,11 +291,18 @@ where
             program,
             entries,
             made,
+            count,
             asked,
         } = other;
         let other = Half { entries, made };
-        let Err(other) = merge_entries(&self.program, &mut self.entries, &mut self.made, other)
-        else {
+        let Err(other) = merge_entries(
+            &self.program,
+            &mut self.entries,
+            &mut self.made,
+            &mut self.count,
+            other,
+            count,
+        ) else {
             return Ok(());
         };
         let Half { entries, made } = other;
@@ -275,6 +312,7 @@ where
                 program,
                 entries,
                 made,
+                count,
                 asked,
             },
         ))

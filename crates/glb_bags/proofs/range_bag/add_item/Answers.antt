@@ -1,4 +1,4 @@
-use Rattle.std.proofs.Common.{◌++◌, ◌∷◌, [], ◌∙◌, ap, sym, subst}
+use Rattle.std.proofs.Common.{◌++◌, ◌∷◌, [], ◌∙◌, ap, sym, subst, arith, length, length-append}
 use Rattle.std.specs.List.Sorted.{IsPermutation}
 use Rattle.std.proofs.lemmas.List.Sorted.{IsPermutation-sym, IsPermutation-to_front}
 use Rattle.glb_bags.specs.Ranges.{AllWhole, all_items, all_made}
@@ -29,3 +29,14 @@ returns-in-Ok-push-clause-added g c =
     ∙ all_items-append children c.args.entries.now.items (One c.args.item ∷ [])))
     (IsPermutation-sym (old ++ c.args.item ∷ []) (c.args.item ∷ old)
     (IsPermutation-to_front old c.args.item))
+
+pub returns-in-Ok-push-clause-more : goal.returns-in-Ok-push-clause-more
+returns-in-Ok-push-clause-more g c =
+    let children = g.P.Program.children c.args._program.now in
+    let old = c.args.entries.now.items in
+    omega (
+      arith,
+      ap (λ es. length (all_items children es)) c.in-Ok-push.ensures.items,
+      ap length (all_items-append children old (One c.args.item ∷ [])),
+      length-append (all_items children old) (c.args.item ∷ []),
+    )

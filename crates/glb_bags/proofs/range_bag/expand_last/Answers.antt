@@ -1,4 +1,4 @@
-use Rattle.std.proofs.Common.{◌≡◌, ◌-◌, ◌<◌, ◌++◌, ◌∙◌, ap, sym, arith, take, length, get_or, vec_len}
+use Rattle.std.proofs.Common.{◌≡◌, ◌-◌, ◌<◌, ◌++◌, ◌∙◌, ◌∷◌, [], ap, sym, arith, take, length, length-append, get_or, vec_len}
 use Rattle.glb_bags.specs.inner.Entries.{all_children}
 use Rattle.glb_bags.proofs.RangesOfChildren.{IsTaken, last_of, some_made, taken}
 use Rattle.glb_bags.proofs.range_bag.expand_last.Goals as goal
@@ -56,3 +56,21 @@ returns-clause-expanded g c =
       gain_is = c.combine.ensures
           ∙ ap (g.P.Value.Monoid.combine c.args.acc.now) c.in_ok-value.ensures;
     }
+
+pub returns-clause-count : goal.returns-clause-count
+returns-clause-count g c =
+    let children = g.P.Program.children c.args.program.now in
+    let item = c.last_made-item.result in
+    let t = taken_here g c in
+    omega (
+      arith,
+      ap (λ l. length l) (sym c.make_last.ensures.same),
+      ap (λ l. length l) t.before_is,
+      length-append t.rest (item ∷ []),
+      ap (λ l. length l) t.after_is,
+      length-append t.rest (children item),
+      c.fan-fan.ensures,
+      c.requires.count,
+      c.saturating_sub.ensures,
+      c.in-Some.ensures.1,
+    )

@@ -12,6 +12,7 @@ pub loop-done-preserved : goal.loop-done-preserved
 loop-done-preserved g c = record {
   within = omega arith;
   kept = c.expand_last.ensures.kept;
+  count = c.expand_last.ensures.count;
   so_far = batch_append _ _ _ _ _ _ _ _ _ _ _ c.loop-done.invariant.so_far
       (taken_last _ _ _ _ _ _ _ c.in-Ok.ensures.expanded);
 }
