@@ -46,7 +46,8 @@ module _ (weights : List ℕ) where
 
   joined_proper : (xs : List Undecided) → (joined xs).0 < 2 ^ 64
   joined_proper xs =
-      combined_proper sat_sum_laws (worth weights) (worth_proper weights) xs (sat_sum 0) (omega arith)
+      combined_proper sat_sum_laws (worth weights) (worth_proper weights) xs (sat_sum 0)
+      (omega arith)
 
   -- the values of some nodes and of others
   joined-append : (xs ys : List Undecided) → joined (xs ++ ys) ≡ join (joined xs) (joined ys)
@@ -103,7 +104,8 @@ module _ (weights : List ℕ) where
       → worth weights x ≡ sat_sum 0
   worth_more x e = ap (λ b. sat_sum (cond b 0 (cond (x.missing == 0) 1 0))) e
 
-  -- the answer of the tree of an undecided rest is how many of its choices add up to what is missing
+  -- the answer of the tree of an undecided rest is how many of its choices add up to what is
+  -- missing
   tree_counts : (rest front : List ℕ) (x : Undecided) (depth : ℕ) → weights ≡ front ++ rest
       → x.next ≡ length front → length rest < depth
       → joined (tree_of x depth) ≡ capped (count_of_sums rest x.missing)

@@ -1,6 +1,7 @@
 //! The tree of one root, by each driver: whatever the way, what comes back is the number of the
 //! tree's nodes and its answer.
-ghost use Rattle.std.specs.Prelude.{◌≡◌, ◌≤◌, ℕ, [], ◌∷◌, get_or, length, map, vec_len, IfOk, IfErr};
+ghost use Rattle.std.specs.Prelude.{◌≡◌, ◌≤◌, ℕ, [], ◌∷◌, get_or, length, map, vec_len};
+ghost use Rattle.std.specs.Prelude.{IfOk, IfErr};
 ghost use Rattle.glb_rules.specs.Setups.{IsWithinLimits};
 ghost use Rattle.glb_tree.specs.Runs.{IsOutcome, HasCause};
 ghost use Rattle.glb_uses.specs.inner.Starts.{at_first};
