@@ -1,4 +1,5 @@
-//! Bags: how the items of a program are kept, taken, split and merged.
+//! Bags: how the items of a program are kept, taken, split and merged. A bag of one's own is
+//! `src/stack_bag.rt` of `glb_uses`.
 #![tactic(auto)]
 
 mod ahead;

@@ -9,7 +9,8 @@
 //! of your own with its `monoid_laws`. The bag can be that of `glb_bags`; a [`Bag`] of your own
 //! says in `items` what it holds and in `fits` for which programs, and proves the clauses of its
 //! methods, which leave it free in which order it keeps and takes items. `run_one` of `glb_tree`
-//! and the drivers above it then run the tree, for every such program and bag.
+//! and the drivers above it then run the tree, for every such program and bag. Examples stand in
+//! `glb_uses`: `src/subset_sums.rt` is a program, `src/greatest_first.rt` a monoid.
 #![tactic(auto)]
 
 mod bag;

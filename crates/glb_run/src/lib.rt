@@ -1,4 +1,5 @@
-//! The program as one call: from the words of the command to the bytes of the report.
+//! The program as one call: from the words of the command to the bytes of the report. An example
+//! of `run_places` is `on_threads` of `glb_uses` (`src/ways.rt`).
 #![tactic(auto)]
 
 mod call;

@@ -1,4 +1,4 @@
-//! Places played by turns, on one thread.
+//! Places played by turns, on one thread. An example is `by_turns` of `glb_uses` (`src/ways.rt`).
 #![tactic(auto)]
 
 mod bags;
