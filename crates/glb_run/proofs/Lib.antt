@@ -1,3 +1,4 @@
+mod BesideFacts
 pub mod CellFacts
 pub mod ChildFacts
 pub mod CloseFacts

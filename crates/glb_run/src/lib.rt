@@ -2,6 +2,7 @@
 //! of `run_places` is `on_threads` of `glb_uses` (`src/ways.rt`).
 #![tactic(auto)]
 
+mod beside;
 mod call;
 mod drivers;
 mod fault_text;

@@ -7,6 +7,7 @@ ghost use Rattle.glb_place.specs.Calls.{SameObject};
 ghost use Rattle.glb_place.specs.Close.{HasLeft, counters_in, done_of};
 ghost use Rattle.glb_run.specs.inner.Plays.{AreFirst, AreSameObjects, AreLeft};
 
+use crate::beside::work_all;
 use glb_core::Params;
 use glb_cube::Lines;
 use glb_laws::{Bag, Monoid, NoMemory, Program};
@@ -15,7 +16,6 @@ use glb_place::{Fabric, Parts, Place};
 use glb_stats::Counters;
 use std::alloc::Global;
 use std::sync::Wait;
-use std::thread;
 use std::thread::Threads;
 
 /// What the places of a run leave: their fabrics and counters, by number, and the combination of
@@ -60,31 +60,6 @@ pub(crate) fn places_of<P: Program, B: Bag<P>, F: Fabric<P, B>>(
         }
     }
     Ok(places)
-}
-
-/// Plays all places to their ends, each on a thread of its own.
-fn work_all<
-    R: Threads + Wait + Sync,
-    P: Program<Item: Send + Sync, Value: Send + Sync> + Sync,
-    B: Bag<P> + Send,
-    F: Fabric<P, B> + Send,
->(rt: &R, program: &P, places: &mut [Place<P, B, F>])
-    requires some { 0 < length places.old }
-    requires programs { All (λ p. program.now ≡ F.program p.fabric) places.old }
-    ensures ended { All (λ p. p.ended ≢ None) places.new }
-    ensures same { (i : ℕ) (d : _) → i < length places.old
-        → SameObject F.program F.home F.refuses (get_or places.old i d).fabric
-        (get_or places.new i d).fabric }
-{
-    let threads = places.len();
-    thread::for_each_mut(
-        rt,
-        places,
-        threads,
-        &|_, place| {
-            place.work(rt, program);
-        },
-    );
 }
 
 /// What a place leaves that has ended: its fabric, its value and its counters.
