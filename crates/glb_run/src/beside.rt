@@ -16,7 +16,7 @@ const PATIENCE: u64 = 1 << 20;
 
 /// What places know of each other that are to be played at the same time.
 #[derive(Drop)]
-struct Muster {
+pub(crate) struct Muster {
     /// How many there are.
     places: u64,
     begun: AtomicU64,
@@ -25,7 +25,8 @@ struct Muster {
 }
 
 impl Muster {
-    fn new(places: u64) -> Muster {
+    /// Before any of so many places is played.
+    pub(crate) fn new(places: u64) -> Muster {
         Muster {
             places,
             begun: AtomicU64::new(0),
@@ -156,7 +157,7 @@ pub(crate) fn work_all<
     P: Program<Item: Send + Sync, Value: Send + Sync> + Sync,
     B: Bag<P> + Send,
     F: Fabric<P, B> + Send,
->(rt: &R, program: &P, places: &mut [Place<P, B, F>])
+>(rt: &R, program: &P, places: &mut [Place<P, B, F>], muster: &Muster)
     requires some { 0 < length places.old }
     requires programs { All (λ p. program.now ≡ F.program p.fabric) places.old }
     ensures ended { All (λ p. p.ended ≢ None) places.new }
@@ -164,7 +165,6 @@ pub(crate) fn work_all<
         → SameObject F.program F.home F.refuses (get_or places.old i d).fabric
         (get_or places.new i d).fabric }
 {
-    let muster = Muster::new(places.len() as u64);
-    work_each(rt, program, places, &muster);
+    work_each(rt, program, places, muster);
     end_by_turns(rt, program, places);
 }

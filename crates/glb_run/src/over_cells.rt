@@ -8,6 +8,7 @@ ghost use Rattle.glb_run.specs.ThreadedRuns.{IsCellsReport};
 ghost use Rattle.glb_run.specs.inner.CellRuns.{AreFirstBerths, IsClosedHistory};
 ghost use Rattle.glb_run.specs.inner.Plays.{AreLeft};
 
+use super::beside::Muster;
 use super::places::report_of;
 use super::played::{Played, play_all};
 use super::roots::bags_of;
@@ -70,6 +71,7 @@ fn play_over<
     bags: Vec<B>,
     cells: &Cells<P, B>,
     berths: Vec<Berth<P, B>>,
+    muster: &Muster,
 ) -> Result<Played<P::Value, Berth<P, B>>, NoMemory>
     requires limits { IsWithinLimits params.now }
     requires places { lines.now.places ≡ params.now.places }
@@ -88,7 +90,7 @@ fn play_over<
         fabrics,
         value,
         counters,
-    } = play_all(rt, alloc, program, params, lines, bags, stands)?;
+    } = play_all(rt, alloc, program, params, lines, bags, stands, muster)?;
     let fabrics = berths_of(alloc, fabrics)?;
     Ok(Played {
         fabrics,
@@ -130,6 +132,7 @@ pub(crate) fn run_over_cells<
     program: &P,
     roots: Vec<Vec<P::Item>>,
     params: &Params,
+    muster: &Muster,
 ) -> Result<Report<P::Value>, RunFault>
     requires limits { IsWithinLimits params.now }
     requires lists { vec_len roots ≡ params.now.places }
@@ -151,7 +154,9 @@ pub(crate) fn run_over_cells<
     let Ok((cells, berths)) = Cells::new(alloc, program, params, &lines, &bags) else {
         return Err(RunFault::NoMemory);
     };
-    let Ok(played) = play_over(rt, alloc, program, params, &lines, bags, &cells, berths) else {
+    let Ok(played) = play_over(
+        rt, alloc, program, params, &lines, bags, &cells, berths, muster,
+    ) else {
         return Err(RunFault::NoMemory);
     };
     let closed = cells.close(played.fabrics);

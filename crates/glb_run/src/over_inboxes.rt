@@ -5,6 +5,7 @@ ghost use Rattle.glb_rules.specs.Joins.{join_to};
 ghost use Rattle.glb_rules.specs.Setups.{IsWithinLimits};
 ghost use Rattle.glb_run.specs.ThreadedRuns.{IsThreadsReport};
 
+use super::beside::Muster;
 use super::places::report_of;
 use super::played::play_all;
 use super::roots::bags_of;
@@ -29,6 +30,7 @@ pub(crate) fn run_over_inboxes<
     program: &P,
     roots: Vec<Vec<P::Item>>,
     params: &Params,
+    muster: &Muster,
 ) -> Result<Report<P::Value>, RunFault>
     requires limits { IsWithinLimits params.now }
     requires lists { vec_len roots ≡ params.now.places }
@@ -50,7 +52,7 @@ pub(crate) fn run_over_inboxes<
     let Ok((post, desks)) = Post::new(alloc, program, params, &lines, &bags) else {
         return Err(RunFault::NoMemory);
     };
-    let Ok(played) = play_all(rt, alloc, program, params, &lines, bags, desks) else {
+    let Ok(played) = play_all(rt, alloc, program, params, &lines, bags, desks, muster) else {
         return Err(RunFault::NoMemory);
     };
     let Closed { items, stop, .. } = post.close(rt, played.fabrics);

@@ -6,6 +6,7 @@ ghost use Rattle.glb_rules.specs.Setups.{IsWithinLimits};
 ghost use Rattle.glb_run.specs.ThreadedRuns.{IsPlayed, IsThreadsReport};
 ghost use Rattle.glb_run.specs.inner.Plays.{IsClosed};
 
+use super::beside::Muster;
 use super::over_cells::run_over_cells;
 use super::over_inboxes::run_over_inboxes;
 use glb_core::Params;
@@ -56,7 +57,8 @@ pub(crate) fn report_of<P: Program>(
 }
 
 /// Plays the places, each on a thread of its own and with the list of roots that it starts with,
-/// until every place has left. Where the machine makes too few threads it may wait for ever.
+/// until every place has left. Where the machine makes too few threads, which is told after about a
+/// second, they go on by turns on the caller's.
 pub fn run_places<
     R: Threads + Wait + Sync,
     P: Program<Item: Send + Sync, Value: Send + Sync> + Send + Sync,
@@ -80,8 +82,11 @@ pub fn run_places<
         (join_to params.now.places (λ p. get_or (map (λ v. v.items) roots.items) p []))
         params.now.limit) }
 {
+    let muster = Muster::new(u64::from(params.places));
     match fabric {
-        FabricKind::Inbox => run_over_inboxes::<R, P, B>(rt, alloc, program, roots, params),
-        FabricKind::Cells => run_over_cells::<R, P, B>(rt, alloc, program, roots, params),
+        FabricKind::Inbox => {
+            run_over_inboxes::<R, P, B>(rt, alloc, program, roots, params, &muster)
+        }
+        FabricKind::Cells => run_over_cells::<R, P, B>(rt, alloc, program, roots, params, &muster),
     }
 }

@@ -7,7 +7,7 @@ ghost use Rattle.glb_place.specs.Calls.{SameObject};
 ghost use Rattle.glb_place.specs.Close.{HasLeft, counters_in, done_of};
 ghost use Rattle.glb_run.specs.inner.Plays.{AreFirst, AreSameObjects, AreLeft};
 
-use crate::beside::work_all;
+use crate::beside::{Muster, work_all};
 use glb_core::Params;
 use glb_cube::Lines;
 use glb_laws::{Bag, Monoid, NoMemory, Program};
@@ -126,6 +126,7 @@ pub(crate) fn play_all<
     lines: &Lines,
     bags: Vec<B>,
     fabrics: Vec<F>,
+    muster: &Muster,
 ) -> Result<Played<P::Value, F>, NoMemory>
     requires limits { IsWithinLimits params.now }
     requires places { lines.now.places ≡ params.now.places }
@@ -143,6 +144,6 @@ pub(crate) fn play_all<
         (map F.kept played.fabrics.items) played.value played.counters.items) }
 {
     let mut places = places_of(alloc, program, params, lines, bags, fabrics)?;
-    work_all(rt, program, &mut places);
+    work_all(rt, program, &mut places, muster);
     finish_all(alloc, places)
 }

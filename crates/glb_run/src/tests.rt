@@ -1,4 +1,5 @@
 mod bags;
+mod beside;
 mod hand;
 mod listed;
 mod pairs;
