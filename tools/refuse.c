@@ -11,6 +11,7 @@
 #include <stddef.h>
 #include <stdio.h>
 #include <stdlib.h>
+#include <sys/syscall.h>
 #include <unistd.h>
 
 void *__libc_malloc(size_t);
@@ -44,10 +45,13 @@ __attribute__((constructor)) static void begin(void)
     dl_iterate_phdr(note_program, NULL);
 }
 
-__attribute__((destructor)) static void end(void)
+/* The program ends by this call, and no destructor of a library runs. */
+void _exit(int status)
 {
     if (getenv("COUNT"))
         dprintf(2, "%ld\n", atomic_load(&calls));
+    for (;;)
+        syscall(SYS_exit_group, status);
 }
 
 static int is_refused(void *caller)
