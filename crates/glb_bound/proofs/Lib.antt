@@ -1,3 +1,5 @@
 pub mod Members
 pub mod Covers
 pub mod Walking
+pub mod ViewSums
+pub mod Keeping

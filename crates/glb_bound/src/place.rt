@@ -1,5 +1,4 @@
 //! A place of a search on threads: it claims items of the frontier and walks their trees.
-ghost use Rattle.std.specs.Prelude.{◌≡◌, ◌×◌, ℕ, ◌+◌, ◌<◌, ◌≤◌, ◌⊎◌, [], ◌∷◌, ◌++◌, List, length, OnOk};
 
 use super::rule::{Slip, Words};
 use super::search::{Best, Search};
