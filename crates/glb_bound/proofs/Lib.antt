@@ -3,3 +3,4 @@ pub mod Covers
 pub mod Walking
 pub mod ViewSums
 pub mod Keeping
+pub mod Seating

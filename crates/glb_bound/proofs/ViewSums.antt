@@ -6,7 +6,7 @@ use Rattle.std.proofs.Common.{◌≡◌, ◌≢◌, ℕ, zero, suc, ◌+◌, ◌
 use Rattle.std.proofs.Common.{ap, subst, ◌∙◌, arith, append_assoc, append-nil, IsPermutation}
 use Rattle.std.proofs.lemmas.List.Sorted.{IsPermutation-refl, IsPermutation-trans}
 use Rattle.std.proofs.lemmas.List.Sorted.{IsPermutation-append_left, IsPermutation-append_right}
-use Rattle.std.proofs.lemmas.List.Sorted.{IsPermutation-append_comm}
+use Rattle.std.proofs.lemmas.List.Sorted.{IsPermutation-append_comm, IsPermutation-sym}
 use Rattle.glb_bound.specs.declared.view.View.{View}
 use Rattle.glb_bound.specs.inner.Rule.{total, greatest, claims}
 
@@ -109,3 +109,79 @@ pub claims_push : (vs : List View) (w : View) → claims (vs ++ w ∷ []) ≡ cl
 claims_push [] w = append-nil w.claimed
 claims_push (x ∷ vs) w = ap (λ l. x.claimed ++ l) (claims_push vs w)
     ∙ sym (append_assoc x.claimed (claims vs) w.claimed)
+
+-- one view takes in the numbers of another, which has none any more
+pub claims_join : (vs : List View) (i j : ℕ) (v w both spent : View) → i ≢ j
+    → get_elem? vs i ≡ some v → get_elem? vs j ≡ some w → both.claimed ≡ v.claimed ++ w.claimed
+    → spent.claimed ≡ [] → IsPermutation (claims (set (set vs i both) j spent)) (claims vs)
+claims_join [] i j v w both spent n e g b s = absurd (some-ne-none v (sym e))
+claims_join (x ∷ vs) zero zero v w both spent n e g b s = absurd (n refl)
+claims_join (x ∷ vs) zero (suc j) v w both spent n e g b s =
+    let m = claims_set vs j w g in
+    let rest : List ℕ = m.0 in
+    let left : IsPermutation (claims (set vs j spent)) rest =
+    subst (λ l. IsPermutation (claims (set vs j spent)) (l ++ rest)) s (m.2 spent) in
+    let right : IsPermutation (v.claimed ++ (w.claimed ++ rest)) (v.claimed ++ claims vs) =
+    IsPermutation-append_right v.claimed _ _ (IsPermutation-sym _ _ m.1) in
+    let same : x.claimed ≡ v.claimed = ap (λ (y : View). y.claimed) (some-injective x v e) in
+    subst (λ l. IsPermutation (both.claimed ++ claims (set vs j spent)) (l ++ claims vs)) (sym same)
+    (subst (λ l. IsPermutation (l ++ claims (set vs j spent)) (v.claimed ++ claims vs)) (sym b)
+    (then (IsPermutation-append_right (v.claimed ++ w.claimed) _ _ left)
+    (subst (λ l. IsPermutation l (v.claimed ++ claims vs))
+    (sym (append_assoc v.claimed w.claimed rest)) right)))
+claims_join (x ∷ vs) (suc i) zero v w both spent n e g b s =
+    let m = claims_set vs i v e in
+    let rest : List ℕ = m.0 in
+    let left : IsPermutation (claims (set vs i both)) ((v.claimed ++ w.claimed) ++ rest) =
+    subst (λ l. IsPermutation (claims (set vs i both)) (l ++ rest)) b (m.2 both) in
+    let right : IsPermutation (w.claimed ++ (v.claimed ++ rest)) (w.claimed ++ claims vs) =
+    IsPermutation-append_right w.claimed _ _ (IsPermutation-sym _ _ m.1) in
+    let same : x.claimed ≡ w.claimed = ap (λ (y : View). y.claimed) (some-injective x w g) in
+    subst (λ l. IsPermutation (spent.claimed ++ claims (set vs i both)) (l ++ claims vs)) (sym same)
+    (subst (λ l. IsPermutation (l ++ claims (set vs i both)) (w.claimed ++ claims vs)) (sym s)
+    (then left (then
+    (subst (λ l. IsPermutation l (w.claimed ++ (v.claimed ++ rest)))
+    (sym (append_assoc v.claimed w.claimed rest)) (flip_first v.claimed w.claimed rest)) right)))
+claims_join (x ∷ vs) (suc i) (suc j) v w both spent n e g b s =
+    IsPermutation-append_right x.claimed _ _
+    (claims_join vs i j v w both spent (λ q. n (ap suc q)) e g b s)
+
+-- the view counts for nothing
+abbrev pub IsIdle : View → Type 0
+IsIdle v = (v.claimed ≡ []) × (v.raised ≡ 0) × (v.code ≡ 0) × (v.counted ≡ 0)
+
+-- views that stand for no place count for nothing
+pub idle_views : (vs : List View)
+    → ((i : ℕ) (v : View) → get_elem? vs i ≡ some v → v.places ≡ 0 → IsIdle v)
+    → total (λ v. v.places) vs ≡ 0
+    → (claims vs ≡ []) × (greatest (λ v. v.raised) vs ≡ 0) × (greatest (λ v. v.code) vs ≡ 0)
+    × (total (λ v. v.counted) vs ≡ 0)
+idle_views [] f e = (refl, refl, refl, refl)
+idle_views (v ∷ vs) f e =
+    let a = f 0 v refl (omega arith) in
+    let h = idle_views vs (λ i w g. f (suc i) w g) (omega arith) in
+    (ap (λ l. l ++ claims vs) a.0 ∙ h.0, omega (arith, a.1, h.1), omega (arith, a.2, h.2),
+    omega (arith, a.3, h.3))
+
+-- where one view stands for all places, the others count for nothing
+pub alone : (vs : List View) (i : ℕ) (v : View)
+    → ((i : ℕ) (v : View) → get_elem? vs i ≡ some v → v.places ≡ 0 → IsIdle v)
+    → get_elem? vs i ≡ some v → total (λ v. v.places) vs ≡ v.places
+    → (claims vs ≡ v.claimed) × (greatest (λ v. v.raised) vs ≡ v.raised)
+    × (greatest (λ v. v.code) vs ≡ v.code) × (total (λ v. v.counted) vs ≡ v.counted)
+alone [] i v f e t = absurd (some-ne-none v (sym e))
+alone (x ∷ vs) zero v f e t =
+    let same : x ≡ v = some-injective x v e in
+    let p : x.places ≡ v.places = ap (λ (y : View). y.places) same in
+    let h = idle_views vs (λ i w g. f (suc i) w g) (omega arith) in
+    let r : x.raised ≡ v.raised = ap (λ (y : View). y.raised) same in
+    let c : x.code ≡ v.code = ap (λ (y : View). y.code) same in
+    let n : x.counted ≡ v.counted = ap (λ (y : View). y.counted) same in
+    (ap (λ l. x.claimed ++ l) h.0 ∙ append-nil x.claimed ∙ ap (λ (y : View). y.claimed) same,
+    omega (arith, h.1), omega (arith, h.2), omega (arith, h.3))
+alone (x ∷ vs) (suc i) v f e t =
+    let least = total_at (λ v. v.places) vs i v e in
+    let a = f 0 x refl (omega arith) in
+    let h = alone vs i v (λ j w g. f (suc j) w g) e (omega arith) in
+    (ap (λ l. l ++ claims vs) a.0 ∙ h.0, omega (arith, a.1, h.1), omega (arith, a.2, h.2),
+    omega (arith, a.3, h.3))
