@@ -4,3 +4,4 @@ pub mod Walking
 pub mod ViewSums
 pub mod Keeping
 pub mod Seating
+pub mod PlaceWalks

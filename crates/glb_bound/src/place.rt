@@ -1,9 +1,14 @@
 //! A place of a search on threads: it claims items of the frontier and walks their trees.
+ghost use Rattle.std.specs.Prelude.{◌≡◌, ℕ, true, false, ◌+◌, ◌^◌, ◌<◌, ◌≤◌, [], ◌∷◌, ◌++◌, List};
+ghost use Rattle.std.specs.Prelude.{max, OnOk, IfOk};
+ghost use Rattle.glb_bound.specs.Best.{worth_of};
+ghost use Rattle.glb_bound.specs.inner.Walks.{TakesBest};
+ghost use Rattle.glb_bound.specs.inner.Places.{Passes, SameButBest, Settles, SameClaims, IsWalking};
 
 use super::rule::{Slip, Words};
 use super::search::{Best, Search};
 use super::steps::{claim, count, halt, halted, raise, read};
-use glb_laws::NoMemory;
+use glb_laws::{MOST_ITEMS, NoMemory};
 
 /// So many items are visited between two counts.
 const CHUNK: u64 = 64;
@@ -31,6 +36,19 @@ fn visit_shared<S: Search>(
 ) -> Result<(), NoMemory>
 where
     S::Item: Copy,
+    requires table { (seat.old.table_id ≡ words.now.table_id) × (3 < words.now.table_id.words) }
+    requires one { seat.old.me.0.places ≡ 1 }
+    ensures table { seat.new.table_id ≡ seat.old.table_id }
+    ensures slots { seat.new.me.1 ≡ seat.old.me.1 }
+    ensures view { SameButBest seat.old.me.0 seat.new.me.0 }
+    ensures passes { OnOk result (Passes (S.children search.now) (worth_of (S.value search.now))
+        (S.cap_of search.now) item waiting.old.items waiting.new.items seat.old.me.0.seen
+        seat.new.me.0.seen) }
+    ensures item { OnOk result (TakesBest (worth_of (S.value search.now)) item
+        best.old.item best.old.worth best.new.item best.new.worth) }
+    ensures raised { OnOk result
+        (seat.new.me.0.raised ≤ max seat.old.me.0.raised best.new.worth) }
+    ensures least { OnOk result (best.old.worth ≤ best.new.worth) }
 {
     let known = read(words, seat);
     let cap = search.cap(&item);
@@ -54,7 +72,19 @@ where
 }
 
 /// Counts the items visited. Whether the place may go on.
-fn settle(words: &Words, seat: &mut Slip, visited: &mut u64, more: u64, limit: u64) -> bool {
+fn settle(words: &Words, seat: &mut Slip, visited: &mut u64, more: u64, limit: u64) -> bool
+    requires table { (seat.old.table_id ≡ words.now.table_id) × (3 < words.now.table_id.words) }
+    requires one { seat.old.me.0.places ≡ 1 }
+    requires limit { words.now.key.limit ≡ limit }
+    requires visited { visited.old ≡ seat.old.me.0.counted }
+    requires few { seat.old.me.0.counted + more ≤ 2 ^ 41 }
+    ensures table { seat.new.table_id ≡ seat.old.table_id }
+    ensures slots { seat.new.me.1 ≡ seat.old.me.1 }
+    ensures settled { Settles more seat.old.me.0 seat.new.me.0 }
+    ensures visited { visited.new ≡ seat.new.me.0.counted }
+    ensures on { result ≡ true → seat.new.me.0.counted ≤ limit }
+    ensures off { result ≡ false → 1 ≤ seat.new.me.0.halted }
+{
     *visited += more;
     if count(words, seat, more) > limit {
         halt(words, seat, 1);
@@ -75,6 +105,23 @@ fn walk<S: Search>(
 ) -> Result<bool, NoMemory>
 where
     S::Item: Copy,
+    requires table { (seat.old.table_id ≡ words.now.table_id) × (3 < words.now.table_id.words) }
+    requires one { seat.old.me.0.places ≡ 1 }
+    requires limit { (words.now.key.limit ≡ limit) × (limit ≤ MOST_ITEMS) }
+    requires visited { (visited.old ≡ seat.old.me.0.counted) × (visited.old ≤ limit) }
+    ensures table { seat.new.table_id ≡ seat.old.table_id }
+    ensures slots { seat.new.me.1 ≡ seat.old.me.1 }
+    ensures same { SameClaims seat.old.me.0 seat.new.me.0 }
+    ensures visited { OnOk result ((visited.new ≡ seat.new.me.0.counted)
+        × (visited.new ≤ limit + 64)) }
+    ensures on { IfOk result (λ on. on ≡ true → (waiting.new.items ≡ [])
+        × (visited.new ≤ limit)) }
+    ensures off { IfOk result (λ on. on ≡ false → 1 ≤ seat.new.me.0.halted) }
+    ensures kept { OnOk result ((root : S.Item) (roots : List S.Item)
+        → IsWalking (S.children search.now) (worth_of (S.value search.now)) (S.cap_of search.now)
+        root roots seat.old.me.0.counted waiting.old.items best.old seat.old.me.0
+        → IsWalking (S.children search.now) (worth_of (S.value search.now)) (S.cap_of search.now)
+        root roots seat.new.me.0.counted waiting.new.items best.new seat.new.me.0) }
 {
     let mut more = 0;
     while let Some(item) = waiting.pop() {
