@@ -1,35 +1,169 @@
 -- Walks of places that share the best.
 use Rattle.std.proofs.Common.{◌≡◌, ℕ, ◌+◌, ◌<◌, ◌≤◌, ◌⊎◌, List, [], ◌∷◌, ◌++◌, length, max}
 use Rattle.std.proofs.Common.{refl, sym, subst, ap, ◌∙◌, arith}
-use Rattle.std.specs.Prelude.{All}
-use Rattle.std.proofs.lemmas.List.Elements.{All-append}
+use Rattle.std.proofs.Common.{append_assoc, length-append, nat_lt, cond, true, false, Bool}
+use Rattle.std.specs.Prelude.{All, IsPermutation}
+use Rattle.std.proofs.lemmas.Bool.Decides.{nat_tests}
+use Rattle.std.proofs.lemmas.List.Sorted.{IsPermutation-append, IsPermutation-append_comm}
+use Rattle.std.proofs.lemmas.List.Sorted.{IsPermutation-append_right, IsPermutation-refl}
+use Rattle.std.proofs.lemmas.List.Elements.{All-append, All-cons, All-nil}
+use Rattle.glb_laws.specs.Expansion.{Expansion, Moves}
+use Rattle.glb_laws.proofs.Expansions.{moves_before, moves_after, moves_append, moves_beside}
+use Rattle.glb_laws.proofs.Expansions.{expansion_order, expansion_more}
 use Rattle.glb_bound.specs.Best.{IsNode}
 use Rattle.glb_bound.specs.declared.search.Best.{Best}
 use Rattle.glb_bound.specs.declared.view.View.{View}
 use Rattle.glb_bound.specs.inner.Walks.{IsWalked, TakesBest}
-use Rattle.glb_bound.specs.inner.Places.{Passes, IsWalking}
+use Rattle.glb_bound.specs.inner.Places.{Passes, IsWalking, Settles, SameButBest}
 use Rattle.glb_bound.proofs.Members.{children_are_nodes, either, All-left, All-right, All-first}
-use Rattle.glb_bound.proofs.Walking.{walk_passes, best_stays}
+use Rattle.glb_bound.specs.inner.Views.{has_claimed}
+use Rattle.glb_bound.proofs.ViewSums.{flip_first, then}
+use Rattle.glb_bound.proofs.Walking.{walk_passes, walk_begins, best_stays, All-raise}
+
+-- a number of the frontier was claimed
+pub claimed_some : (n : ℕ) (v : View) → n < v.frontier
+    → has_claimed n v ≡ record v { claimed = n ∷ v.claimed }
+claimed_some n v lt = go (nat_lt n v.frontier) refl
+  where
+    go : (b : Bool) → nat_lt n v.frontier ≡ b
+        → cond b (record v { claimed = n ∷ v.claimed }) (record v { ended = v.ended + 1 })
+        ≡ record v { claimed = n ∷ v.claimed }
+    go true e = refl
+    go false e = absurd (let le : v.frontier ≤ n = grind (arith, nat_tests) in omega arith)
+
+-- no number was left
+pub claimed_none : (n : ℕ) (v : View) → v.frontier ≤ n
+    → has_claimed n v ≡ record v { ended = v.ended + 1 }
+claimed_none n v le = go (nat_lt n v.frontier) refl
+  where
+    go : (b : Bool) → nat_lt n v.frontier ≡ b
+        → cond b (record v { claimed = n ∷ v.claimed }) (record v { ended = v.ended + 1 })
+        ≡ record v { ended = v.ended + 1 }
+    go true e = absurd (let lt : n < v.frontier = grind (arith, nat_tests) in omega arith)
+    go false e = refl
+
+module _ {X : Type 0} where
+  -- what waits and what is left out in two walks
+  side_by_side : (w s x y : List X)
+      → IsPermutation ((x ++ y) ++ (w ++ s)) ((w ++ x) ++ (s ++ y))
+  side_by_side w s x y =
+      let flipped : IsPermutation (w ++ (s ++ (x ++ y))) (w ++ (x ++ (s ++ y))) =
+      IsPermutation-append_right w _ _ (flip_first s x y) in
+      then (IsPermutation-append_comm (x ++ y) (w ++ s))
+      (subst (λ l. IsPermutation l ((w ++ x) ++ (s ++ y))) (sym (append_assoc w s (x ++ y)))
+      (subst (IsPermutation (w ++ (s ++ (x ++ y)))) (sym (append_assoc w x (s ++ y))) flipped))
+
+module _ {X : Type 0} (children : X → List X) (worth cap : X → ℕ) where
+  -- two walks side by side are one
+  pub walks_beside : (A B : List X) (a b : ℕ) (w x : List X) (m n : ℕ)
+      → IsWalked children worth cap A a w m → IsWalked children worth cap B b x n
+      → IsWalked children worth cap (A ++ B) (a + b) (w ++ x) (max m n)
+  walks_beside A B a b w x m n p q = record {
+    done = p.done ++ q.done;
+    skipped = p.skipped ++ q.skipped;
+    number = omega (arith, length-append p.done q.done, p.number, q.number);
+    expansion = record {
+      taken = p.expansion.taken ++ q.expansion.taken;
+      order = IsPermutation-append p.expansion.taken p.done q.expansion.taken q.done
+          p.expansion.order q.expansion.order;
+      moves = moves_after children (A ++ B) (p.expansion.taken ++ q.expansion.taken) _ _
+          (moves_append children (A ++ B) p.expansion.taken ((w ++ p.skipped) ++ B)
+          q.expansion.taken _
+          (moves_beside children B A p.expansion.taken (w ++ p.skipped) p.expansion.moves)
+          (moves_before children ((w ++ p.skipped) ++ B) (B ++ (w ++ p.skipped))
+          q.expansion.taken ((x ++ q.skipped) ++ (w ++ p.skipped))
+          (IsPermutation-append_comm (w ++ p.skipped) B)
+          (moves_beside children (w ++ p.skipped) B q.expansion.taken (x ++ q.skipped)
+          q.expansion.moves)))
+          (side_by_side w p.skipped x q.skipped);
+    };
+    bounded = All-append (λ y. worth y ≤ max m n) p.done q.done
+        (All-raise worth m (max m n) p.done (omega arith) p.bounded)
+        (All-raise worth n (max m n) q.done (omega arith) q.bounded);
+    covered = All-append (λ y. cap y ≤ max m n) p.skipped q.skipped
+        (All-raise cap m (max m n) p.skipped (omega arith) p.covered)
+        (All-raise cap n (max m n) q.skipped (omega arith) q.covered);
+  }
+
+  -- a walk whose roots stand in another order
+  pub walk_reordered : (A B : List X) (n : ℕ) (w : List X) (m : ℕ) → IsPermutation B A
+      → IsWalked children worth cap A n w m → IsWalked children worth cap B n w m
+  walk_reordered A B n w m s p = record {
+    done = p.done;
+    skipped = p.skipped;
+    number = p.number;
+    expansion = record {
+      taken = p.expansion.taken;
+      order = p.expansion.order;
+      moves = moves_before children B A p.expansion.taken (w ++ p.skipped) s p.expansion.moves;
+    };
+    bounded = p.bounded;
+    covered = p.covered;
+  }
+
+  -- a walk through the trees that were still to visit
+  pub walk_further : (A B : List X) (a b : ℕ) (w : List X) (m n : ℕ)
+      → IsWalked children worth cap A a B m → IsWalked children worth cap B b w n
+      → IsWalked children worth cap A (a + b) w (max m n)
+  walk_further A B a b w m n p q = record {
+    done = p.done ++ q.done;
+    skipped = q.skipped ++ p.skipped;
+    number = omega (arith, length-append p.done q.done, p.number, q.number);
+    expansion = expansion_order children A (p.done ++ q.expansion.taken) (p.done ++ q.done)
+        ((w ++ q.skipped) ++ p.skipped) (w ++ (q.skipped ++ p.skipped))
+        (IsPermutation-append_right p.done _ _ q.expansion.order)
+        (subst (IsPermutation ((w ++ q.skipped) ++ p.skipped))
+        (append_assoc w q.skipped p.skipped) (IsPermutation-refl _))
+        (expansion_more children A p.done (B ++ p.skipped) q.expansion.taken
+        ((w ++ q.skipped) ++ p.skipped) p.expansion
+        (moves_beside children p.skipped B q.expansion.taken (w ++ q.skipped) q.expansion.moves));
+    bounded = All-append (λ y. worth y ≤ max m n) p.done q.done
+        (All-raise worth m (max m n) p.done (omega arith) p.bounded)
+        (All-raise worth n (max m n) q.done (omega arith) q.bounded);
+    covered = All-append (λ y. cap y ≤ max m n) q.skipped p.skipped
+        (All-raise cap n (max m n) q.skipped (omega arith) q.covered)
+        (All-raise cap m (max m n) p.skipped (omega arith) p.covered);
+  }
+
+  -- the tree of one more item is to be walked
+  pub walking_claims : (root : X) (roots : List X) (visited : ℕ) (x : X) (best : Best X)
+      (v w : View) → w.seen ≡ v.seen → w.raised ≡ v.raised → IsNode children root x
+      → IsWalking children worth cap root roots visited [] best v
+      → IsWalking children worth cap root (x ∷ roots) visited (x ∷ []) best w
+  walking_claims root roots visited x best v w seen raised node i = record {
+    walked = subst (IsWalked children worth cap (x ∷ roots) visited (x ∷ [])) (sym seen)
+        (walks_beside (x ∷ []) roots 0 visited (x ∷ []) [] 0 v.seen
+        (walk_begins children worth cap x 0) i.walked);
+    nodes = All-cons (IsNode children root) x [] node (All-nil (IsNode children root));
+    node = i.node;
+    worth_is = i.worth_is;
+    raised = omega (arith, raised, i.raised);
+  }
 
 module _ {X : Type 0} (children : X → List X) (worth cap : X → ℕ) where
   -- a visit takes the walk on
   pub walking_on : ((x : X) → All (λ c. cap c ≤ cap x) (children x))
-      → (root : X) (roots : List X) (visited : ℕ) (before after : List X) (x : X)
-      (old new : Best X) (v w : View)
-      → IsWalking children worth cap root roots visited (before ++ x ∷ []) old v
+      → (root : X) (roots : List X) (visited now : ℕ)
+      (waiting before after : List X) (x : X) (old new : Best X) (v w : View)
+      → visited + 1 ≡ now → waiting ≡ before ++ x ∷ []
+      → IsWalking children worth cap root roots visited waiting old v
       → Passes children worth cap x before after v.seen w.seen
       → TakesBest worth x old.item old.worth new.item new.worth
       → w.raised ≤ max v.raised new.worth → old.worth ≤ new.worth
-      → IsWalking children worth cap root roots (visited + 1) after new w
-  walking_on below root roots visited before after x old new v w i p t raised least =
+      → IsWalking children worth cap root roots now after new w
+  walking_on below root roots visited now waiting before after x old new v w n e all p t raised
+      least =
+      let i : IsWalking children worth cap root roots visited (before ++ x ∷ []) old v =
+      subst (λ l. IsWalking children worth cap root roots visited l old v) e all in
       let Node : X → Type 0 = IsNode children root in
       let first : All Node before = All-left Node before (x ∷ []) i.nodes in
       let x_node : Node x = All-first Node x [] (All-right Node before (x ∷ []) i.nodes) in
       let best = best_stays children worth cap root x old.item new.item old.worth new.worth x_node
       i.node i.worth_is t in
       record {
-        walked = walk_passes children worth cap below roots visited before after x v.seen w.seen
-            i.walked p;
+        walked = subst (λ m. IsWalked children worth cap roots m after w.seen) n
+            (walk_passes children worth cap below roots visited before after x v.seen w.seen
+            i.walked p);
         nodes = either
             (λ e. subst (All Node) (sym e)
             (All-append Node before (children x) first (children_are_nodes children root x x_node)))
@@ -52,3 +186,13 @@ module _ {X : Type 0} (children : X → List X) (worth cap : X → ℕ) where
     worth_is = i.worth_is;
     raised = omega (arith, raised, i.raised);
   }
+
+  -- a count takes in what was visited since the last one
+  pub walking_settled : (root : X) (roots : List X) (visited more : ℕ) (waiting : List X)
+      (best : Best X) (u v w : View) → visited ≡ u.counted → SameButBest u v → Settles more v w
+      → IsWalking children worth cap root roots (visited + more) waiting best v
+      → IsWalking children worth cap root roots w.counted waiting best w
+  walking_settled root roots visited more waiting best u v w n same s i =
+      walking_same root roots (visited + more) w.counted waiting best v w
+      (omega (arith, n, ap (λ (x : View). x.counted) same, ap (λ (x : View). x.counted) s.same))
+      (ap (λ (x : View). x.seen) s.same) (ap (λ (x : View). x.raised) s.same) i

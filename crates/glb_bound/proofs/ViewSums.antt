@@ -76,7 +76,7 @@ greatest_join f (x ∷ vs) (suc i) (suc j) v w both spent n e g b s =
     let h = greatest_join f vs i j v w both spent (λ q. n (ap suc q)) e g b s in omega arith
 
 -- the first two of three lists change places
-flip_first : {A : Type 0} (a b c : List A) → IsPermutation (a ++ (b ++ c)) (b ++ (a ++ c))
+pub flip_first : {A : Type 0} (a b c : List A) → IsPermutation (a ++ (b ++ c)) (b ++ (a ++ c))
 flip_first a b c =
     subst (λ l. IsPermutation l (b ++ (a ++ c))) (append_assoc a b c)
     (subst (λ l. IsPermutation ((a ++ b) ++ c) l) (append_assoc b a c)

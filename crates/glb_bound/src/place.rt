@@ -1,9 +1,11 @@
 //! A place of a search on threads: it claims items of the frontier and walks their trees.
-ghost use Rattle.std.specs.Prelude.{◌≡◌, ℕ, true, false, ◌+◌, ◌^◌, ◌<◌, ◌≤◌, [], ◌∷◌, ◌++◌, List};
-ghost use Rattle.std.specs.Prelude.{max, OnOk, IfOk};
+ghost use Rattle.std.specs.Prelude.{◌≡◌, ℕ, true, false, ◌+◌, ◌^◌, ◌<◌, ◌≤◌, [], ◌∷◌, ◌++◌};
+ghost use Rattle.std.specs.Prelude.{List, length, max, OnOk, IfOk};
 ghost use Rattle.glb_bound.specs.Best.{worth_of};
 ghost use Rattle.glb_bound.specs.inner.Walks.{TakesBest};
 ghost use Rattle.glb_bound.specs.inner.Places.{Passes, SameButBest, Settles, SameClaims, IsWalking};
+ghost use Rattle.glb_bound.specs.inner.Places.{HasPlayed};
+ghost use Rattle.glb_bound.specs.inner.Views.{fresh};
 
 use super::rule::{Slip, Words};
 use super::search::{Best, Search};
@@ -145,7 +147,30 @@ impl<I: Copy + Drop> Place<I> {
         search: &S,
         root: I,
         limit: u64,
-    ) -> Result<bool, NoMemory> {
+    ) -> Result<bool, NoMemory>
+        requires table { (self.old.seat.table_id ≡ words.now.table_id)
+            × (3 < words.now.table_id.words) }
+        requires one { self.old.seat.me.0.places ≡ 1 }
+        requires limit { (words.now.key.limit ≡ limit) × (limit ≤ MOST_ITEMS) }
+        requires visited { (self.old.visited ≡ self.old.seat.me.0.counted)
+            × (self.old.visited ≤ limit) }
+        ensures table { self.new.seat.table_id ≡ self.old.seat.table_id }
+        ensures slots { self.new.seat.me.1 ≡ self.old.seat.me.1 }
+        ensures same { SameClaims self.old.seat.me.0 self.new.seat.me.0 }
+        ensures refused { self.new.is_refused ≡ self.old.is_refused }
+        ensures visited { OnOk result ((self.new.visited ≡ self.new.seat.me.0.counted)
+            × (self.new.visited ≤ limit + 64)) }
+        ensures on { IfOk result (λ on. on ≡ true → (self.new.waiting.items ≡ [])
+            × (self.new.visited ≤ limit)) }
+        ensures off { IfOk result (λ on. on ≡ false → 1 ≤ self.new.seat.me.0.halted) }
+        ensures kept { OnOk result ((top : I) (roots : List I)
+            → IsWalking (S.children search.now) (worth_of (S.value search.now))
+            (S.cap_of search.now) top roots self.old.seat.me.0.counted
+            (self.old.waiting.items ++ root ∷ []) self.old.best self.old.seat.me.0
+            → IsWalking (S.children search.now) (worth_of (S.value search.now))
+            (S.cap_of search.now) top roots self.new.seat.me.0.counted self.new.waiting.items
+            self.new.best self.new.seat.me.0) }
+    {
         self.waiting.push(root)?;
         walk(
             words,
@@ -166,7 +191,20 @@ impl<I: Copy + Drop> Place<I> {
         search: &S,
         frontier: &[I],
         limit: u64,
-    ) {
+    )
+        requires table { (self.old.seat.table_id ≡ words.now.table_id)
+            × (3 < words.now.table_id.words) }
+        requires limit { (words.now.key.limit ≡ limit) × (limit ≤ MOST_ITEMS) }
+        requires fresh { self.old.seat.me ≡ (fresh 1 (length frontier.now), []) }
+        requires empty { (self.old.waiting.items ≡ []) × (self.old.visited ≡ 0)
+            × (self.old.is_refused ≡ false) }
+        ensures table { self.new.seat.table_id ≡ self.old.seat.table_id }
+        ensures slots { self.new.seat.me.1 ≡ [] }
+        ensures played { self.new.is_refused ≡ false
+            → HasPlayed (S.children search.now) (worth_of (S.value search.now))
+            (S.cap_of search.now) frontier.now limit self.old.best self.new.visited
+            self.new.waiting.items self.new.best self.new.seat.me.0 }
+    {
         loop {
             let number = claim(words, &mut self.seat) as usize;
             if number >= frontier.len() {

@@ -44,3 +44,21 @@ pub record IsWalking {X : Type 0} (children : X → List X) (worth cap : X → �
   pub node : IsNode children root best.item
   pub worth_is : worth best.item ≡ best.worth
   pub raised : v.raised ≤ best.worth
+
+-- the items of the frontier that have these numbers
+abbrev pub items_at : {X : Type 0} → List X → X → List ℕ → List X
+items_at frontier d numbers = map (λ n. get_or frontier n d) numbers
+
+-- what a place leaves that found memory: it walked the trees of the items that it claimed, to the
+-- end or until stop was raised
+pub record HasPlayed {X : Type 0} (children : X → List X) (worth cap : X → ℕ) (frontier : List X)
+    (limit : ℕ) (first : Best X) (visited : ℕ) (waiting : List X) (best : Best X) (v : View)
+    : Type 0 where
+  pub places : v.places ≡ 1
+  pub counted : visited ≡ v.counted
+  pub few : visited ≤ limit + 64
+  pub code : v.code ≤ 1
+  pub ends : ((1 ≤ v.ended) × (waiting ≡ [])) ⊎ (1 ≤ v.halted)
+  pub walking : (root : X) → All (IsNode children root) frontier → IsNode children root first.item
+      → worth first.item ≡ first.worth
+      → IsWalking children worth cap root (items_at frontier root v.claimed) visited waiting best v
