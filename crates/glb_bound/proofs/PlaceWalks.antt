@@ -1,6 +1,6 @@
 -- Walks of places that share the best.
-use Rattle.std.proofs.Common.{◌≡◌, ℕ, ◌+◌, ◌<◌, ◌≤◌, ◌⊎◌, List, [], ◌∷◌, ◌++◌, length, max}
-use Rattle.std.proofs.Common.{refl, sym, subst, ap, ◌∙◌, arith}
+use Rattle.std.proofs.Common.{◌≡◌, ℕ, ◌+◌, ◌<◌, ◌≤◌, ◌⊎◌, List, [], ◌∷◌, ◌++◌, length, max, zero, suc}
+use Rattle.std.proofs.Common.{refl, sym, subst, ap, ◌∙◌, arith, inl, inr, get_or}
 use Rattle.std.proofs.Common.{append_assoc, length-append, nat_lt, cond, true, false, Bool}
 use Rattle.std.specs.Prelude.{All, IsPermutation}
 use Rattle.std.proofs.lemmas.Bool.Decides.{nat_tests}
@@ -15,6 +15,7 @@ use Rattle.glb_bound.specs.declared.search.Best.{Best}
 use Rattle.glb_bound.specs.declared.view.View.{View}
 use Rattle.glb_bound.specs.inner.Walks.{IsWalked, TakesBest}
 use Rattle.glb_bound.specs.inner.Places.{Passes, IsWalking, Settles, SameButBest}
+use Rattle.glb_bound.specs.inner.Places.{SameClaims, HasPlayed, items_at}
 use Rattle.glb_bound.proofs.Members.{children_are_nodes, either, All-left, All-right, All-first}
 use Rattle.glb_bound.specs.inner.Views.{has_claimed}
 use Rattle.glb_bound.proofs.ViewSums.{flip_first, then}
@@ -43,6 +44,12 @@ claimed_none n v le = go (nat_lt n v.frontier) refl
     go false e = refl
 
 module _ {X : Type 0} where
+  -- within a list the default is of no account
+  pub get_same : (xs : List X) (n : ℕ) (d e : X) → n < length xs → get_or xs n d ≡ get_or xs n e
+  get_same [] n d e lt = absurd (omega arith)
+  get_same (x ∷ xs) zero d e lt = refl
+  get_same (x ∷ xs) (suc n) d e lt = get_same xs n d e (omega arith)
+
   -- what waits and what is left out in two walks
   side_by_side : (w s x y : List X)
       → IsPermutation ((x ++ y) ++ (w ++ s)) ((w ++ x) ++ (s ++ y))
@@ -131,16 +138,22 @@ module _ {X : Type 0} (children : X → List X) (worth cap : X → ℕ) where
       → IsWalking children worth cap root roots visited [] best v
       → IsWalking children worth cap root (x ∷ roots) visited (x ∷ []) best w
   walking_claims root roots visited x best v w seen raised node i = record {
-    walked = subst (IsWalked children worth cap (x ∷ roots) visited (x ∷ [])) (sym seen)
+    walked = subst (λ m. IsWalked children worth cap (x ∷ roots) m (x ∷ []) w.seen) none_yet
+        (subst (IsWalked children worth cap (x ∷ roots) (0 + visited) (x ∷ [])) same
         (walks_beside (x ∷ []) roots 0 visited (x ∷ []) [] 0 v.seen
-        (walk_begins children worth cap x 0) i.walked);
+        (walk_begins children worth cap x 0) i.walked));
     nodes = All-cons (IsNode children root) x [] node (All-nil (IsNode children root));
     node = i.node;
     worth_is = i.worth_is;
     raised = omega (arith, raised, i.raised);
   }
+    where
+      none_yet : 0 + visited ≡ visited
+      none_yet = omega arith
 
-module _ {X : Type 0} (children : X → List X) (worth cap : X → ℕ) where
+      same : max 0 v.seen ≡ w.seen
+      same = omega (arith, seen)
+
   -- a visit takes the walk on
   pub walking_on : ((x : X) → All (λ c. cap c ≤ cap x) (children x))
       → (root : X) (roots : List X) (visited now : ℕ)
@@ -196,3 +209,59 @@ module _ {X : Type 0} (children : X → List X) (worth cap : X → ℕ) where
       walking_same root roots (visited + more) w.counted waiting best v w
       (omega (arith, n, ap (λ (x : View). x.counted) same, ap (λ (x : View). x.counted) s.same))
       (ap (λ (x : View). x.seen) s.same) (ap (λ (x : View). x.raised) s.same) i
+
+  -- a place that found no number left has played
+  pub played_out : (frontier : List X) (limit : ℕ) (first : Best X) (visited : ℕ)
+      (waiting : List X) (best : Best X) (v w : View) → w ≡ record v { ended = v.ended + 1 }
+      → v.places ≡ 1 → visited ≡ v.counted → visited ≤ limit → v.code ≤ 1 → waiting ≡ []
+      → ((root : X) → All (IsNode children root) frontier → IsNode children root first.item
+      → worth first.item ≡ first.worth
+      → IsWalking children worth cap root (items_at frontier root v.claimed) visited [] best v)
+      → HasPlayed children worth cap frontier limit first visited waiting best w
+  played_out frontier limit first visited waiting best v w e one counted within code none_left
+      walking =
+      subst (HasPlayed children worth cap frontier limit first visited waiting best) (sym e)
+      (subst (λ l. HasPlayed children worth cap frontier limit first visited l best
+      (record v { ended = v.ended + 1 })) (sym none_left)
+      (record {
+        places = one;
+        counted = counted;
+        few = omega arith;
+        code = code;
+        ends = inl (omega arith, refl);
+        walking = λ root all node same.
+            walking_same root (items_at frontier root v.claimed) visited visited [] best v
+            (record v { ended = v.ended + 1 }) refl refl refl (walking root all node same);
+      }))
+
+  -- the walk of the tree of an item that was claimed
+  pub walking_tree : (frontier : List X) (first : Best X) (visited n : ℕ) (x : X)
+      (waiting after : List X) (best new : Best X) (v u w : View)
+      → u ≡ record v { claimed = n ∷ v.claimed } → SameClaims u w → waiting ≡ []
+      → n < length frontier → ((d : X) → x ≡ get_or frontier n d) → visited ≡ v.counted
+      → ((top : X) (roots : List X)
+      → IsWalking children worth cap top roots u.counted (waiting ++ x ∷ []) best u
+      → IsWalking children worth cap top roots w.counted after new w)
+      → ((root : X) → All (IsNode children root) frontier → IsNode children root first.item
+      → worth first.item ≡ first.worth
+      → IsWalking children worth cap root (items_at frontier root v.claimed) visited [] best v)
+      → (root : X) → All (IsNode children root) frontier → IsNode children root first.item
+      → worth first.item ≡ first.worth
+      → IsWalking children worth cap root (items_at frontier root w.claimed) w.counted after new w
+  walking_tree frontier first visited n x waiting after best new v u w e s none_left lt at counted
+      kept walking root all node same =
+      let y : X = get_or frontier n root in
+      let others : List X = items_at frontier root v.claimed in
+      let claimed : w.claimed ≡ n ∷ v.claimed = s.claimed ∙ ap (λ (z : View). z.claimed) e in
+      let started = walking_claims root others visited y best v u (ap (λ (z : View). z.seen) e)
+      (ap (λ (z : View). z.raised) e) (all n root lt) (walking root all node same) in
+      let number : visited ≡ u.counted = counted ∙ sym (ap (λ (z : View). z.counted) e) in
+      subst (λ l. IsWalking children worth cap root (items_at frontier root l) w.counted after new w)
+      (sym claimed)
+      (kept root (y ∷ others)
+      (subst (λ l. IsWalking children worth cap root (y ∷ others) u.counted (l ++ x ∷ []) best u)
+      (sym none_left)
+      (subst (λ z. IsWalking children worth cap root (y ∷ others) u.counted (z ∷ []) best u)
+      (sym (at root))
+      (subst (λ m. IsWalking children worth cap root (y ∷ others) m (y ∷ []) best u) number
+      started))))
