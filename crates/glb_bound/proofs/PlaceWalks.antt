@@ -1,11 +1,13 @@
 -- Walks of places that share the best.
 use Rattle.std.proofs.Common.{◌≡◌, ℕ, ◌+◌, ◌<◌, ◌≤◌, ◌⊎◌, List, [], ◌∷◌, ◌++◌, length, max, zero, suc}
-use Rattle.std.proofs.Common.{refl, sym, subst, ap, ◌∙◌, arith, inl, inr, get_or}
+use Rattle.std.proofs.Common.{refl, sym, subst, ap, ◌∙◌, arith, inl, inr, ⊎_elim, get_or}
 use Rattle.std.proofs.Common.{append_assoc, length-append, nat_lt, cond, true, false, Bool}
 use Rattle.std.specs.Prelude.{All, IsPermutation}
+use Rattle.std.specs.List.{remove}
 use Rattle.std.proofs.lemmas.Bool.Decides.{nat_tests}
 use Rattle.std.proofs.lemmas.List.Sorted.{IsPermutation-append, IsPermutation-append_comm}
 use Rattle.std.proofs.lemmas.List.Sorted.{IsPermutation-append_right, IsPermutation-refl}
+use Rattle.std.proofs.lemmas.List.Sorted.{IsPermutation-append_left}
 use Rattle.std.proofs.lemmas.List.Elements.{All-append, All-cons, All-nil}
 use Rattle.glb_laws.specs.Expansion.{Expansion, Moves}
 use Rattle.glb_laws.proofs.Expansions.{moves_before, moves_after, moves_append, moves_beside}
@@ -13,13 +15,14 @@ use Rattle.glb_laws.proofs.Expansions.{expansion_order, expansion_more}
 use Rattle.glb_bound.specs.Best.{IsNode}
 use Rattle.glb_bound.specs.declared.search.Best.{Best}
 use Rattle.glb_bound.specs.declared.view.View.{View}
-use Rattle.glb_bound.specs.inner.Walks.{IsWalked, TakesBest}
+use Rattle.glb_bound.specs.inner.Walks.{IsWalked, IsOpened, TakesBest}
 use Rattle.glb_bound.specs.inner.Places.{Passes, IsWalking, Settles, SameButBest}
 use Rattle.glb_bound.specs.inner.Places.{SameClaims, HasPlayed, items_at}
 use Rattle.glb_bound.proofs.Members.{children_are_nodes, either, All-left, All-right, All-first}
+use Rattle.glb_bound.proofs.Members.{root_is_node}
 use Rattle.glb_bound.specs.inner.Views.{has_claimed}
 use Rattle.glb_bound.proofs.ViewSums.{flip_first, then}
-use Rattle.glb_bound.proofs.Walking.{walk_passes, walk_begins, best_stays, All-raise}
+use Rattle.glb_bound.proofs.Walking.{walk_passes, walk_begins, best_stays, All-raise, last_is_node}
 
 -- a number of the frontier was claimed
 pub claimed_some : (n : ℕ) (v : View) → n < v.frontier
@@ -49,6 +52,12 @@ module _ {X : Type 0} where
   get_same [] n d e lt = absurd (omega arith)
   get_same (x ∷ xs) zero d e lt = refl
   get_same (x ∷ xs) (suc n) d e lt = get_same xs n d e (omega arith)
+
+  -- the first of a list is taken out
+  pub first_removed : (xs : List X) (x : X) → 0 < length xs → x ≡ get_or xs 0 x
+      → xs ≡ x ∷ remove xs 0
+  first_removed [] x lt e = absurd (omega arith)
+  first_removed (y ∷ ys) x lt e = ap (λ z. z ∷ ys) (sym e)
 
   -- what waits and what is left out in two walks
   side_by_side : (w s x y : List X)
@@ -265,3 +274,67 @@ module _ {X : Type 0} (children : X → List X) (worth cap : X → ℕ) where
       (sym (at root))
       (subst (λ m. IsWalking children worth cap root (y ∷ others) m (y ∷ []) best u) number
       started))))
+
+  -- what waits may stand in another order
+  pub walk_waiting : (A : List X) (n : ℕ) (w x : List X) (m : ℕ) → IsPermutation w x
+      → IsWalked children worth cap A n w m → IsWalked children worth cap A n x m
+  walk_waiting A n w x m s p = record {
+    done = p.done;
+    skipped = p.skipped;
+    number = p.number;
+    expansion = expansion_order children A p.done p.done (w ++ p.skipped) (x ++ p.skipped)
+        (IsPermutation-refl p.done) (IsPermutation-append_left p.skipped w x s) p.expansion;
+    bounded = p.bounded;
+    covered = p.covered;
+  }
+
+  -- the root is visited first
+  pub opened_first : ((x : X) → All (λ c. cap c ≤ cap x) (children x)) → (root : X)
+      (items : List X) (n : ℕ) → items ≡ children root → n ≡ worth root
+      → IsOpened children worth cap root 1 items (record { worth = n; item = root })
+  opened_first below root items n e v = record {
+    walked = subst (λ m. IsWalked children worth cap (root ∷ []) m items n) one
+        (walk_passes children worth cap below (root ∷ []) 0 [] items root 0 n
+        (walk_begins children worth cap root 0)
+        (record { waiting = inl e; least = omega arith; own = omega arith }));
+    node = root_is_node children root;
+    worth_is = sym v;
+  }
+    where
+      one : 0 + 1 ≡ 1
+      one = omega arith
+
+  -- the first that waits is visited next, and its children wait behind the others
+  pub opened_on : ((x : X) → All (λ c. cap c ≤ cap x) (children x)) → (root : X) (visited : ℕ)
+      (items rest after : List X) (x : X) (n : ℕ) (old new : Best X) → items ≡ x ∷ rest
+      → after ≡ rest ++ children x → n ≡ worth x
+      → ((n ≤ old.worth) × (new ≡ old)) ⊎ ((old.worth < n) × (new ≡ record { worth = n; item = x }))
+      → IsOpened children worth cap root visited items old
+      → IsOpened children worth cap root (visited + 1) after new
+  opened_on below root visited items rest after x n old new e f v t o = ⊎_elim
+      (λ h. subst (IsOpened children worth cap root (visited + 1) after) (sym h.1)
+      (record {
+        walked = on old.worth (omega arith) (omega (arith, h.0));
+        node = o.node;
+        worth_is = o.worth_is;
+      }))
+      (λ h. subst (IsOpened children worth cap root (visited + 1) after) (sym h.1)
+      (record {
+        walked = on n (omega (arith, h.0)) (omega arith);
+        node = x_node;
+        worth_is = sym v;
+      }))
+      t
+    where
+      walked : IsWalked children worth cap (root ∷ []) visited (rest ++ x ∷ []) old.worth
+      walked = walk_waiting (root ∷ []) visited (x ∷ rest) (rest ++ x ∷ []) old.worth
+          (IsPermutation-append_comm (x ∷ []) rest)
+          (subst (λ l. IsWalked children worth cap (root ∷ []) visited l old.worth) e o.walked)
+
+      x_node : IsNode children root x
+      x_node = last_is_node children worth cap root visited rest x old.worth walked
+
+      on : (new : ℕ) → old.worth ≤ new → n ≤ new
+          → IsWalked children worth cap (root ∷ []) (visited + 1) after new
+      on new least own = walk_passes children worth cap below (root ∷ []) visited rest after x
+          old.worth new walked (record { waiting = inl f; least = least; own = omega (arith, v) })
