@@ -237,10 +237,10 @@ module _ (k : Start) where
       let f = h.each id v at in
       let a = alone s.views id v (λ i u e. idle h i u e) at (h.all_places ∙ sym all) in
       record {
-        all_claimed = λ some_ended.
-            let reached : min h.claim k.frontier ≡ k.frontier = omega (arith, f.ended some_ended) in
-            subst (λ n. IsPermutation v.claimed (below n)) reached
-            (subst (λ l. IsPermutation l (below (min h.claim k.frontier))) a.0 h.all_claims);
+        number = min h.claim k.frontier;
+        within = omega arith;
+        claims_are = subst (λ l. IsPermutation l (below (min h.claim k.frontier))) a.0 h.all_claims;
+        all_claimed = λ e. omega (arith, f.ended e);
         best_seen = omega (arith, f.seen, h.best_is, a.1);
         cause = λ some_halted.
             cause h.items h.stop f.halted some_halted (h.stop_is ∙ a.2)

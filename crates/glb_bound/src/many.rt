@@ -1,7 +1,15 @@
 //! A search on threads that share the best.
+ghost use Rattle.std.specs.Prelude.{◌≡◌, ◌⊎◌, ℕ, ◌+◌, ◌*◌, ◌^◌, ◌<◌, ◌≤◌, List, [], ◌∷◌, length};
+ghost use Rattle.std.specs.Prelude.{All, IfOk, IfErr, vec_len};
+ghost use Rattle.glb_tree.specs.Runs.{HasCause};
+ghost use Rattle.glb_bound.specs.Best.{IsBest, IsNode, worth_of};
+ghost use Rattle.glb_bound.specs.inner.Views.{fresh};
+ghost use Rattle.glb_bound.specs.inner.Walks.{IsOpened};
+ghost use Rattle.glb_bound.specs.inner.Places.{IsReady, IsDone, HasPlayed, HasSearched};
+
 use super::frontier::{Frontier, open_frontier};
 use super::place::Place;
-use super::rule::{Slip, Start, WordTable, Words};
+use super::rule::{Slip, Start, Words};
 use super::search::{Best, Search};
 use super::steps::{close, deal, gather, open_table};
 use glb_laws::{MOST_ITEMS, NoMemory};
@@ -10,6 +18,12 @@ use std::alloc::Global;
 use std::thread;
 use std::thread::Threads;
 
+/// So many open items for each place, at least, are there before the places begin.
+const SHARE: usize = 16;
+
+/// More items than this cannot be numbered. A list of them is only there where they take no memory.
+const MOST_NUMBERS: usize = 1 << 62;
+
 /// A place for each seat that is dealt.
 fn deal_places<I: Copy + Drop>(
     alloc: Global,
@@ -17,7 +31,16 @@ fn deal_places<I: Copy + Drop>(
     dealer: &mut Slip,
     best: Best<I>,
     places: u32,
-) -> Result<Vec<Place<I>>, NoMemory> {
+) -> Result<Vec<Place<I>>, NoMemory>
+    requires table { (dealer.old.table_id ≡ words.now.table_id)
+        × (3 < words.now.table_id.words) }
+    requires fresh { dealer.old.me ≡ (fresh places words.now.key.frontier, []) }
+    ensures table { dealer.new.table_id ≡ dealer.old.table_id }
+    ensures dealt { IfOk result (λ all. dealer.new.me ≡ (fresh 0 words.now.key.frontier, [])) }
+    ensures number { IfOk result (λ all. vec_len all ≡ places) }
+    ensures ready { IfOk result (λ all.
+        All (IsReady words.now.table_id words.now.key.frontier best) all.items) }
+{
     let mut all = Vec::with_capacity(alloc, places as usize)?;
     for _ in 0..places {
         all.push(Place {
@@ -38,10 +61,17 @@ fn play_all<R: Threads + Sync, S: Search<Item: Send + Sync> + Sync>(
     search: &S,
     frontier: &[S::Item],
     limit: u64,
+    best: Best<S::Item>,
     places: &mut [Place<S::Item>],
 )
 where
     S::Item: Copy,
+    requires words { 3 < words.now.table_id.words }
+    requires limit { (words.now.key.limit ≡ limit) × (limit ≤ MOST_ITEMS) }
+    requires some { 0 < length places.old }
+    requires ready { All (IsReady words.now.table_id (length frontier.now) best) places.old }
+    ensures done { All (IsDone (S.children search.now) (worth_of (S.value search.now))
+        (S.cap_of search.now) words.now.table_id frontier.now best) places.new }
 {
     let threads = places.len();
     thread::for_each_mut(
@@ -55,15 +85,30 @@ where
 }
 
 /// What all places found: the best, and how many items were visited with those before.
-fn gather_all<I: Copy + Drop>(
+fn gather_all<S: Search>(
     words: &Words,
+    search: &S,
+    frontier: &[S::Item],
     seat: &mut Slip,
-    places: Vec<Place<I>>,
-    best: Best<I>,
-    visited: u64,
-) -> Result<(Best<I>, u64), NoMemory> {
-    let mut best = best;
-    let mut visited = visited;
+    places: Vec<Place<S::Item>>,
+    first: Best<S::Item>,
+    before: u64,
+) -> Result<(Best<S::Item>, u64), NoMemory>
+where
+    S::Item: Copy,
+    requires table { (seat.old.table_id ≡ words.now.table_id) × (3 < words.now.table_id.words) }
+    requires fresh { seat.old.me ≡ (fresh 0 (length frontier.now), []) }
+    requires few { (vec_len places ≤ 64) × (before ≤ MOST_ITEMS) }
+    requires done { All (IsDone (S.children search.now) (worth_of (S.value search.now))
+        (S.cap_of search.now) words.now.table_id frontier.now first) places.items }
+    ensures table { seat.new.table_id ≡ seat.old.table_id }
+    ensures played { IfOk result (λ r. (n : ℕ) × (waiting : List S.Item) × (r.1 ≡ before + n)
+        × HasPlayed (S.children search.now) (worth_of (S.value search.now)) (S.cap_of search.now)
+        frontier.now first (vec_len places) n waiting r.0 seat.new.me.0) }
+    ensures least { IfOk result (λ r. first.worth ≤ r.0.worth) }
+{
+    let mut best = first;
+    let mut visited = before;
     for place in places {
         if place.is_refused {
             return Err(NoMemory);
@@ -77,8 +122,53 @@ fn gather_all<I: Copy + Drop>(
     Ok((best, visited))
 }
 
-/// The greatest value in the tree of a root, and a node that has it, found by places on threads
-/// that share the best. It returns also where a tree has no end.
+/// Searches on from a frontier. The best, and how many items were visited with those before.
+fn search_on<R: Threads + Sync, S: Search<Item: Send + Sync> + Send + Sync>(
+    rt: &R,
+    alloc: Global,
+    search: &S,
+    frontier: Frontier<S::Item>,
+    places: u32,
+    limit: u64,
+) -> Result<(Best<S::Item>, u64), NoMemory>
+where
+    S::Item: Copy,
+    requires places { (1 ≤ places) × (places ≤ 64) }
+    requires limited { limit ≤ MOST_ITEMS }
+    requires within { frontier.visited ≤ limit }
+    ensures searched { IfOk result (λ r. (root : S.Item)
+        → IsOpened (S.children search.now) (worth_of (S.value search.now)) (S.cap_of search.now)
+        root frontier.visited frontier.items.items frontier.best
+        → HasSearched (S.children search.now) (worth_of (S.value search.now))
+        (S.cap_of search.now) root limit r.1 r.0) }
+{
+    let Frontier {
+        items,
+        best,
+        visited,
+    } = frontier;
+    if items.len() > MOST_NUMBERS {
+        return Err(NoMemory);
+    }
+    let start = Start {
+        places: u64::from(places),
+        frontier: items.len() as u64,
+        best: best.worth,
+        items: visited,
+        limit,
+    };
+    let (table, mut dealer) = open_table(alloc, start)?;
+    let mut all = deal_places(alloc, &table.shared, &mut dealer, best, places)?;
+    play_all(rt, &table.shared, search, &items, limit, best, &mut all);
+    let found = gather_all(&table.shared, search, &items, &mut dealer, all, best, visited)?;
+    close(table, dealer);
+    Ok(found)
+}
+
+/// The greatest value in the tree of a root, and a node that has it, found by so many places on
+/// threads that share the best. The tree is expanded breadth first until there is enough for all
+/// places, and what cannot be better than the best so far is left out from then on. It returns
+/// also where a tree has no end.
 pub fn run_best<R: Threads + Sync, S: Search<Item: Send + Sync> + Send + Sync>(
     rt: &R,
     alloc: Global,
@@ -89,30 +179,18 @@ pub fn run_best<R: Threads + Sync, S: Search<Item: Send + Sync> + Send + Sync>(
 ) -> Result<Best<S::Item>, RunFault>
 where
     S::Item: Copy,
+    requires places { (1 ≤ places) × (places ≤ 64) }
+    requires limited { (1 ≤ limit) × (limit ≤ MOST_ITEMS) }
+    ensures worth { IfOk result (λ best.
+        IsBest (S.children search.now) (worth_of (S.value search.now)) root best.worth) }
+    ensures item { IfOk result (λ best. IsNode (S.children search.now) root best.item
+        × (worth_of (S.value search.now) best.item ≡ best.worth)) }
+    ensures fault { IfErr result (HasCause (S.children search.now) (root ∷ []) limit) }
 {
-    let Frontier {
-        items,
-        best,
-        visited,
-    } = open_frontier(alloc, search, root, 16 * places as usize, limit)?;
-    let start = Start {
-        places: u64::from(places),
-        frontier: items.len() as u64,
-        best: best.worth,
-        items: visited,
-        limit,
-    };
-    let Ok((table, mut dealer)) = open_table(alloc, start) else {
+    let frontier = open_frontier(alloc, search, root, SHARE * places as usize, limit)?;
+    let Ok((best, visited)) = search_on(rt, alloc, search, frontier, places, limit) else {
         return Err(RunFault::NoMemory);
     };
-    let Ok(mut all) = deal_places(alloc, &table.shared, &mut dealer, best, places) else {
-        return Err(RunFault::NoMemory);
-    };
-    play_all(rt, &table.shared, search, &items, limit, &mut all);
-    let Ok((best, visited)) = gather_all(&table.shared, &mut dealer, all, best, visited) else {
-        return Err(RunFault::NoMemory);
-    };
-    close(table, dealer);
     if visited > limit {
         return Err(RunFault::TooMany { items: visited });
     }

@@ -202,7 +202,7 @@ impl<I: Copy + Drop> Place<I> {
         ensures slots { self.new.seat.me.1 ≡ [] }
         ensures played { self.new.is_refused ≡ false
             → HasPlayed (S.children search.now) (worth_of (S.value search.now))
-            (S.cap_of search.now) frontier.now limit self.old.best self.new.visited
+            (S.cap_of search.now) frontier.now self.old.best 1 self.new.visited
             self.new.waiting.items self.new.best self.new.seat.me.0 }
     {
         loop {

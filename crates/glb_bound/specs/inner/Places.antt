@@ -1,8 +1,12 @@
 -- What a place of a search on threads does to its seat, to the items that wait, and to its best.
-use Rattle.std.specs.Prelude.{◌≡◌, ◌⊎◌, ℕ, ◌+◌, ◌≤◌, List, [], ◌∷◌, ◌++◌, length, max, map, get_or, All}
-use Rattle.glb_bound.specs.Best.{IsNode}
+use Rattle.std.specs.Prelude.{◌≡◌, ◌⊎◌, ℕ, ◌+◌, ◌*◌, ◌^◌, ◌<◌, ◌≤◌, false, List, [], ◌∷◌, ◌++◌, length, max, map, get_or, All}
+use Rattle.glb_tree.specs.Runs.{IsTooMany}
+use Rattle.atomic_table.specs.Seated.{TableId}
+use Rattle.glb_bound.specs.Best.{IsNode, IsBest}
+use Rattle.glb_bound.specs.declared.place.Place.{Place}
 use Rattle.glb_bound.specs.declared.search.Best.{Best}
 use Rattle.glb_bound.specs.declared.view.View.{View}
+use Rattle.glb_bound.specs.inner.Views.{fresh}
 use Rattle.glb_bound.specs.inner.Walks.{IsWalked}
 
 -- a visit of x, with `before` waiting: the children of x wait too, or they are left out, since no
@@ -49,16 +53,42 @@ pub record IsWalking {X : Type 0} (children : X → List X) (worth cap : X → �
 abbrev pub items_at : {X : Type 0} → List X → X → List ℕ → List X
 items_at frontier d numbers = map (λ n. get_or frontier n d) numbers
 
--- what a place leaves that found memory: it walked the trees of the items that it claimed, to the
--- end or until stop was raised
+-- what so many places leave that found memory: they walked the trees of the items that they
+-- claimed, to the end or until stop was raised
 pub record HasPlayed {X : Type 0} (children : X → List X) (worth cap : X → ℕ) (frontier : List X)
-    (limit : ℕ) (first : Best X) (visited : ℕ) (waiting : List X) (best : Best X) (v : View)
+    (first : Best X) (places visited : ℕ) (waiting : List X) (best : Best X) (v : View)
     : Type 0 where
-  pub places : v.places ≡ 1
+  pub places_are : v.places ≡ places
   pub counted : visited ≡ v.counted
-  pub few : visited ≤ limit + 64
+  pub few : visited ≤ places * 2 ^ 41
   pub code : v.code ≤ 1
-  pub ends : ((1 ≤ v.ended) × (waiting ≡ [])) ⊎ (1 ≤ v.halted)
+  pub ends : ((places ≤ v.ended) × (waiting ≡ [])) ⊎ (1 ≤ v.halted)
   pub walking : (root : X) → All (IsNode children root) frontier → IsNode children root first.item
       → worth first.item ≡ first.worth
       → IsWalking children worth cap root (items_at frontier root v.claimed) visited waiting best v
+
+-- a place at the start
+pub record IsReady {X : Type 0} (id : TableId) (frontier : ℕ) (first : Best X) (p : Place X)
+    : Type 0 where
+  pub table : p.seat.table_id ≡ id
+  pub fresh_view : p.seat.me ≡ (fresh 1 frontier, [])
+  pub empty : p.waiting.items ≡ []
+  pub none : p.visited ≡ 0
+  pub found_memory : p.is_refused ≡ false
+  pub best : p.best ≡ first
+
+-- a place at the end
+pub record IsDone {X : Type 0} (children : X → List X) (worth cap : X → ℕ) (id : TableId)
+    (frontier : List X) (first : Best X) (p : Place X) : Type 0 where
+  pub table : p.seat.table_id ≡ id
+  pub slots : p.seat.me.1 ≡ []
+  pub played : p.is_refused ≡ false → HasPlayed children worth cap frontier first 1 p.visited
+      p.waiting.items p.best p.seat.me.0
+
+-- what a search has found that visited so many items
+pub record HasSearched {X : Type 0} (children : X → List X) (worth cap : X → ℕ) (root : X)
+    (limit visited : ℕ) (best : Best X) : Type 0 where
+  pub exceeds : limit < visited → IsTooMany children (root ∷ []) limit visited
+  pub is_best : visited ≤ limit → IsBest children worth root best.worth
+  pub node : IsNode children root best.item
+  pub worth_is : worth best.item ≡ best.worth

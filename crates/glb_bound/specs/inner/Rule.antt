@@ -68,6 +68,9 @@ pub record Holds (k : Start) (s : State ℕ View) : Type 0 where
 
 -- what a seat that stands for all places knows
 pub record Ends (k : Start) (v : View) : Type 0 where
-  pub all_claimed : 1 ≤ v.ended → IsPermutation v.claimed (below k.frontier)
+  pub number : ℕ
+  pub within : number ≤ k.frontier
+  pub claims_are : IsPermutation v.claimed (below number)
+  pub all_claimed : 1 ≤ v.ended → number ≡ k.frontier
   pub best_seen : v.seen ≤ max k.best v.raised
   pub cause : 1 ≤ v.halted → (2 ≤ v.code) ⊎ (k.limit < k.items + v.counted)

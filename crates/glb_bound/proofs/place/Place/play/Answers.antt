@@ -16,7 +16,7 @@ returns-then-number-frontier-clause-played g c = λ _.
     (ap (λ m. m.0) c.claim-number.ensures.moved
     ∙ claimed_none c.claim-number.result c.loop-limit.self.seat.me.0
     (omega (arith, i.frontier, c.if-number-frontier.true)))
-    i.places i.visited i.within i.code i.empty i.walking
+    i.places i.visited i.within c.requires.limit.1 i.code i.empty i.walking
 
 pub loop-limit-preserved : goal.loop-limit-preserved
 loop-limit-preserved g c =
@@ -67,9 +67,9 @@ returns-in-Ok-false-clause-played g c = λ _.
     let i = c.loop-limit.invariant in
     let e = c.in-Ok-false.ensures in
     record {
-      places = search rules;
+      places_are = search rules;
       counted = e.visited.0;
-      few = e.visited.1;
+      few = omega (arith, e.visited.1, c.requires.limit.1);
       code = search rules;
       ends = inr (e.off c.in-Ok-false.field-0-test);
       walking = λ root all node same.
