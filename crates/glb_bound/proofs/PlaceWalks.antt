@@ -399,6 +399,14 @@ module _ {X : Type 0} (children : X → List X) (worth cap : X → ℕ) where
       on new least own = walk_passes children worth cap below (root ∷ []) visited rest after x
           old.worth new walked (record { waiting = inl f; least = least; own = omega (arith, v) })
 
+  -- the greater of two is worth no less than the first
+  pub greater_least : (least : ℕ) (p q best : Best X)
+      → ((q.worth ≤ p.worth) × (best ≡ p)) ⊎ ((p.worth < q.worth) × (best ≡ q))
+      → least ≤ p.worth → least ≤ best.worth
+  greater_least least p q best greater le = ⊎_elim
+      (λ h. subst (λ (z : Best X). least ≤ z.worth) (sym h.1) le)
+      (λ h. subst (λ (z : Best X). least ≤ z.worth) (sym h.1) (omega (arith, h.0))) greater
+
   -- before any place has played
   pub none_played : (frontier : List X) (first : Best X) (most : ℕ)
       → HasPlayed children worth cap frontier first 0 0 [] first (fresh 0 most)

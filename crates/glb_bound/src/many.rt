@@ -84,6 +84,18 @@ where
     );
 }
 
+/// The greater of two, and the first where they are worth the same.
+fn greater<I: Copy + Drop>(best: Best<I>, other: Best<I>) -> Best<I>
+    ensures { ((other.worth ≤ best.worth) × (result ≡ best))
+        ⊎ ((best.worth < other.worth) × (result ≡ other)) }
+{
+    if other.worth > best.worth {
+        other
+    } else {
+        best
+    }
+}
+
 /// What all places found: the best, and how many items were visited with those before.
 fn gather_all<S: Search>(
     words: &Words,
@@ -110,14 +122,19 @@ where
     let mut best = first;
     let mut visited = before;
     for place in places {
-        if place.is_refused {
+        let Place {
+            seat: other,
+            best: found,
+            visited: more,
+            is_refused,
+            ..
+        } = place;
+        if is_refused {
             return Err(NoMemory);
         }
-        if place.best.worth > best.worth {
-            best = place.best;
-        }
-        visited += place.visited;
-        gather(words, seat, place.seat);
+        best = greater(best, found);
+        visited += more;
+        gather(words, seat, other);
     }
     Ok((best, visited))
 }
