@@ -9,7 +9,7 @@ ghost use Rattle.glb_bound.specs.inner.Places.{IsReady, IsDone, HasPlayed, HasSe
 
 use super::frontier::{Frontier, open_frontier};
 use super::place::Place;
-use super::rule::{Slip, Start, Words};
+use super::rule::{Slip, Start, WordTable, Words};
 use super::search::{Best, Search};
 use super::steps::{close, deal, gather, open_table};
 use glb_laws::{MOST_ITEMS, NoMemory};
@@ -139,6 +139,39 @@ where
     Ok((best, visited))
 }
 
+/// The end of a run: the best, and how many items were visited with those before.
+fn finish<S: Search>(
+    table: WordTable,
+    dealer: Slip,
+    search: &S,
+    frontier: &[S::Item],
+    places: Vec<Place<S::Item>>,
+    first: Best<S::Item>,
+    before: u64,
+) -> Result<(Best<S::Item>, u64), NoMemory>
+where
+    S::Item: Copy,
+    requires table { (dealer.table_id ≡ table.shared.table_id)
+        × (3 < table.shared.table_id.words) × (table.shared.table_id.slots ≡ 0) }
+    requires fresh { dealer.me ≡ (fresh 0 (length frontier.now), []) }
+    requires start { (table.shared.key.places ≡ vec_len places)
+        × (table.shared.key.frontier ≡ length frontier.now)
+        × (table.shared.key.best ≡ first.worth) × (table.shared.key.items ≡ before) }
+    requires few { (1 ≤ vec_len places) × (vec_len places ≤ 64) × (before ≤ MOST_ITEMS) }
+    requires done { All (IsDone (S.children search.now) (worth_of (S.value search.now))
+        (S.cap_of search.now) table.shared.table_id frontier.now first) places.items }
+    ensures searched { IfOk result (λ r. (root : S.Item)
+        → IsOpened (S.children search.now) (worth_of (S.value search.now)) (S.cap_of search.now)
+        root before frontier.now first
+        → HasSearched (S.children search.now) (worth_of (S.value search.now))
+        (S.cap_of search.now) root table.shared.key.limit r.1 r.0) }
+{
+    let mut seat = dealer;
+    let found = gather_all(&table.shared, search, frontier, &mut seat, places, first, before)?;
+    close(table, seat);
+    Ok(found)
+}
+
 /// Searches on from a frontier. The best, and how many items were visited with those before.
 fn search_on<R: Threads + Sync, S: Search<Item: Send + Sync> + Send + Sync>(
     rt: &R,
@@ -177,9 +210,7 @@ where
     let (table, mut dealer) = open_table(alloc, start)?;
     let mut all = deal_places(alloc, &table.shared, &mut dealer, best, places)?;
     play_all(rt, &table.shared, search, &items, limit, best, &mut all);
-    let found = gather_all(&table.shared, search, &items, &mut dealer, all, best, visited)?;
-    close(table, dealer);
-    Ok(found)
+    finish(table, dealer, search, &items, all, best, visited)
 }
 
 /// The greatest value in the tree of a root, and a node that has it, found by so many places on
