@@ -1,24 +1,24 @@
 -- Each step of a seat keeps the rule of the table.
-use mathlib.Core.Option.{Option, none, some, some-injective, some-ne-none}
+use mathlib.Core.Option.{none, some, some-injective, some-ne-none}
 use lib.ListN.{get_elem?}
-use Rattle.std.proofs.Common.{◌≡◌, ◌≢◌, ℕ, zero, suc, ◌+◌, ◌-◌, ◌*◌, ◌%◌, ◌^◌, ◌<◌, ◌≤◌, ◌⊎◌, inl, inr, ⊎_elim}
+use Rattle.std.proofs.Common.{◌≡◌, ℕ, zero, suc, ◌+◌, ◌*◌, ◌%◌, ◌^◌, ◌<◌, ◌≤◌, ◌⊎◌, inl, inr, ⊎_elim}
 use Rattle.std.proofs.Common.{Bool, true, false, cond, nat_lt, List, [], ◌∷◌, ◌++◌, set, refl, sym, max, min}
-use Rattle.std.proofs.Common.{ap, subst, ◌∙◌, arith, length, append_assoc, append-nil, IsPermutation}
+use Rattle.std.proofs.Common.{ap, subst, ◌∙◌, arith, append_assoc, IsPermutation}
 use Rattle.std.proofs.Math.Nat.{mod-eq_of_lt}
 use Rattle.std.proofs.lemmas.Bool.Decides.{nat_tests}
-use Rattle.std.proofs.lemmas.List.Sorted.{IsPermutation-refl, IsPermutation-append_right}
+use Rattle.std.proofs.lemmas.List.Sorted.{IsPermutation-append_right}
 use Rattle.std.proofs.lemmas.List.Sorted.{IsPermutation-sym}
 use Rattle.std.specs.Prelude.{slice_index, slice_set}
-use Rattle.atomic_table.proofs.Lists.{at_set, set_else, at_snoc}
-use Rattle.atomic_table.specs.Table.{State, Me, Allows, Splits, Joins, step, opening, keeps}
+use Rattle.atomic_table.proofs.Lists.{at_set}
+use Rattle.atomic_table.specs.Table.{State, Me, Allows, step, keeps}
 use Rattle.glb_bound.specs.declared.view.View.{View}
 use Rattle.glb_bound.specs.declared.rule.Start.{Start}
-use Rattle.glb_bound.specs.inner.Rule.{total, greatest, claims, below, IsGood, Fits, Holds}
-use Rattle.glb_bound.specs.inner.Views.{fresh, one_less, joined, has_read, has_raised, has_claimed}
-use Rattle.glb_bound.specs.inner.Views.{has_counted, has_halted, has_looked, next_of}
+use Rattle.glb_bound.specs.inner.Rule.{total, claims, below, Fits, Holds}
+use Rattle.glb_bound.specs.inner.Views.{has_read, has_raised, has_claimed}
+use Rattle.glb_bound.specs.inner.Views.{has_counted, has_halted, has_looked}
 use Rattle.glb_bound.specs.inner.Views.{Reads, Raises, Claims, Counts, Halts, Looks}
-use Rattle.glb_bound.proofs.ViewSums.{total_set, total_push, total_at, greatest_set, greatest_push}
-use Rattle.glb_bound.proofs.ViewSums.{greatest_at, greatest_join, then, claims_set, claims_push}
+use Rattle.glb_bound.proofs.ViewSums.{total_set, total_at, greatest_set}
+use Rattle.glb_bound.proofs.ViewSums.{then, claims_set}
 
 abbrev pub four : ℕ → ℕ → ℕ → ℕ → List ℕ
 four best claim items stop = best ∷ claim ∷ items ∷ stop ∷ []

@@ -1,5 +1,5 @@
 -- Walks of places that share the best.
-use Rattle.std.proofs.Common.{◌≡◌, ℕ, ◌+◌, ◌*◌, ◌^◌, ◌<◌, ◌≤◌, ◌⊎◌, List, [], ◌∷◌, ◌++◌, length, max, zero, suc}
+use Rattle.std.proofs.Common.{◌≡◌, ℕ, ◌+◌, ◌^◌, ◌<◌, ◌≤◌, ◌⊎◌, List, [], ◌∷◌, ◌++◌, length, max, zero, suc}
 use Rattle.std.proofs.Common.{refl, sym, subst, ap, ◌∙◌, arith, inl, inr, ⊎_elim, get_or}
 use Rattle.std.proofs.Common.{append_assoc, append-nil, length-append, take, drop, map, nat_lt, cond, true, false, Bool}
 use Rattle.std.specs.Prelude.{All, IsPermutation}
@@ -9,7 +9,7 @@ use Rattle.std.proofs.lemmas.List.Sorted.{IsPermutation-append, IsPermutation-ap
 use Rattle.std.proofs.lemmas.List.Sorted.{IsPermutation-append_right, IsPermutation-refl}
 use Rattle.std.proofs.lemmas.List.Sorted.{IsPermutation-append_left, IsPermutation-sym, IsPermutation-map}
 use Rattle.std.proofs.lemmas.List.Elements.{All-append, All-cons, All-nil}
-use Rattle.glb_laws.specs.Expansion.{Expansion, Moves}
+use Rattle.glb_laws.specs.Expansion.{Expansion}
 use Rattle.glb_laws.proofs.Expansions.{moves_before, moves_after, moves_append, moves_beside}
 use Rattle.glb_laws.proofs.Expansions.{expansion_order, expansion_more, expansion_start}
 use Rattle.glb_bound.specs.Best.{IsNode}

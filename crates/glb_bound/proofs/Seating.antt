@@ -1,15 +1,15 @@
 -- The table at the start, seats that are dealt and gathered, and the end of a run.
-use mathlib.Core.Option.{Option, none, some, some-injective, some-ne-none}
+use mathlib.Core.Option.{some, some-injective, some-ne-none}
 use lib.ListN.{get_elem?}
-use Rattle.std.proofs.Common.{◌≡◌, ◌≢◌, ℕ, zero, suc, ◌+◌, ◌-◌, ◌*◌, ◌^◌, ◌<◌, ◌≤◌, ◌⊎◌, inl, inr, ⊎_elim}
+use Rattle.std.proofs.Common.{◌≡◌, ◌≢◌, ℕ, zero, suc, ◌+◌, ◌-◌, ◌<◌, ◌≤◌, ◌⊎◌, inl, inr, ⊎_elim}
 use Rattle.std.proofs.Common.{List, [], ◌∷◌, ◌++◌, set, refl, sym, max, min}
-use Rattle.std.proofs.Common.{ap, subst, ◌∙◌, arith, length, append-nil, IsPermutation}
+use Rattle.std.proofs.Common.{ap, subst, ◌∙◌, arith, append-nil, IsPermutation}
 use Rattle.std.proofs.lemmas.List.Sorted.{IsPermutation-refl, IsPermutation-sym}
 use Rattle.atomic_table.proofs.Lists.{at_set, set_else, at_snoc}
 use Rattle.atomic_table.specs.Table.{State, Splits, Joins, opening, Final, Seen}
 use Rattle.glb_bound.specs.declared.view.View.{View}
 use Rattle.glb_bound.specs.declared.rule.Start.{Start}
-use Rattle.glb_bound.specs.inner.Rule.{total, greatest, claims, below, IsGood, Fits, Holds, Ends}
+use Rattle.glb_bound.specs.inner.Rule.{claims, below, IsGood, Fits, Holds, Ends}
 use Rattle.glb_bound.specs.inner.Views.{fresh, one_less, joined, next_of}
 use Rattle.glb_bound.proofs.ViewSums.{total_set, total_push, greatest_set, greatest_push}
 use Rattle.glb_bound.proofs.ViewSums.{greatest_join, then, claims_set, claims_push, claims_join}

@@ -3,8 +3,9 @@ ghost use Rattle.std.specs.Prelude.{◌≡◌, ◌≤◌, ◌∷◌, [], min, On
 ghost use Rattle.std.proofs.Common.{rules};
 ghost use Rattle.glb_laws.specs.Bounded.{greatest};
 
+mod fan;
+
 use super::best_one;
-use super::run_best;
 use super::search::{Best, Search};
 use glb_laws::{Greatest, NoMemory, Program};
 use glb_tree::RunFault;
@@ -52,11 +53,5 @@ fn an_endless_chain_that_cannot_be_better_is_left_out(rt: HostRuntime) {
 #[test]
 fn an_endless_chain_that_could_be_better_passes_the_limit(rt: HostRuntime) {
     let found = best_one(rt.alloc(), &Idle, 0, 1000);
-    assert_eq!(rt; found, Err(RunFault::TooMany { items: 1001 }));
-}
-
-#[test]
-fn two_places_leave_out_an_endless_chain(rt: HostRuntime) {
-    let found = run_best(&rt, rt.alloc(), &Idle, 1, 2, 1000);
     assert_eq!(rt; found, Err(RunFault::TooMany { items: 1001 }));
 }

@@ -1,4 +1,4 @@
-use Rattle.std.proofs.Common.{◌≡◌, ◌≤◌, ◌-◌, ◌+◌}
+use Rattle.std.proofs.Common.{◌≤◌, ◌-◌, ◌+◌}
 use Rattle.glb_bound.specs.Best.{worth_of}
 use Rattle.glb_bound.specs.inner.Walks.{IsOpened}
 use Rattle.glb_bound.proofs.frontier.open_frontier.Given as goal

@@ -1,4 +1,4 @@
-use Rattle.std.proofs.Common.{◌≡◌, ℕ, ◌+◌, ◌-◌, ◌*◌, ◌<◌, ◌≤◌, length, List}
+use Rattle.std.proofs.Common.{◌≡◌, ◌+◌, ◌-◌, ◌<◌, ◌≤◌, List}
 use Rattle.glb_bound.specs.Best.{worth_of}
 use Rattle.glb_bound.specs.inner.Places.{SameClaims, IsWalking}
 use Rattle.glb_bound.proofs.place.walk.Given as goal

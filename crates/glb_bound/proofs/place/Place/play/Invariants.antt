@@ -1,4 +1,4 @@
-use Rattle.std.proofs.Common.{◌≡◌, ℕ, ◌+◌, ◌-◌, ◌*◌, ◌<◌, ◌≤◌, length, List, [], false}
+use Rattle.std.proofs.Common.{◌≡◌, ◌-◌, ◌≤◌, length, [], false}
 use Rattle.std.specs.Prelude.{All}
 use Rattle.glb_bound.specs.Best.{IsNode, worth_of}
 use Rattle.glb_bound.specs.inner.Views.{next_of}
