@@ -123,8 +123,7 @@ module _ (k : Start) where
       × T (slice_index (four h.best h.claim h.items h.stop) word) (w, me.1))
       → Allows (Holds k) slots id me word f T
   lift slots id word f me T go s h many at small =
-      let g = go s h at in
-      (
+      let g = go s h at in (
         g.0,
         keeps,
         tt,

@@ -482,17 +482,22 @@ module _ {X : Type 0} (children : X → List X) (worth cap : X → ℕ) where
       → HasSearched children worth cap root limit (before + n) best
   all_searched caps_value caps_children root frontier first before limit places n waiting best k v
       opened played e wide k_best k_items k_limit some_place least = record {
-    exceeds = λ above. walk_exceeds children worth cap (root ∷ []) (before + n)
-        (waiting ++ drop e.number frontier) most limit whole above;
-    is_best = λ within. walk_ends children worth cap caps_value caps_children root (before + n)
-        best.item best.worth
-        (walk_raised (root ∷ []) (before + n) [] most best.worth (omega (arith, least, k_best,
-        e.best_seen, i.raised))
-        (subst (λ l. IsWalked children worth cap (root ∷ []) (before + n) l most)
-        (none_left within) whole)) i.node i.worth_is;
-    node = i.node;
-    worth_is = i.worth_is;
-  }
+        exceeds = λ above. walk_exceeds children worth cap (root ∷ []) (before + n)
+            (waiting ++ drop e.number frontier) most limit whole above;
+        is_best = λ within. walk_ends children worth cap caps_value caps_children root (before + n)
+            best.item best.worth
+            (walk_raised (root ∷ []) (before + n) [] most best.worth (omega (
+              arith,
+              least,
+              k_best,
+              e.best_seen,
+              i.raised,
+            ))
+            (subst (λ l. IsWalked children worth cap (root ∷ []) (before + n) l most)
+            (none_left within) whole)) i.node i.worth_is;
+        node = i.node;
+        worth_is = i.worth_is;
+      }
     where
       nodes : All (IsNode children root) frontier
       nodes = All-left (IsNode children root) frontier opened.walked.skipped

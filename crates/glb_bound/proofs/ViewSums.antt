@@ -159,9 +159,12 @@ pub idle_views : (vs : List View)
 idle_views [] f e = (refl, refl, refl, refl)
 idle_views (v ∷ vs) f e =
     let a = f 0 v refl (omega arith) in
-    let h = idle_views vs (λ i w g. f (suc i) w g) (omega arith) in
-    (ap (λ l. l ++ claims vs) a.0 ∙ h.0, omega (arith, a.1, h.1), omega (arith, a.2, h.2),
-    omega (arith, a.3, h.3))
+    let h = idle_views vs (λ i w g. f (suc i) w g) (omega arith) in (
+      ap (λ l. l ++ claims vs) a.0 ∙ h.0,
+      omega (arith, a.1, h.1),
+      omega (arith, a.2, h.2),
+      omega (arith, a.3, h.3),
+    )
 
 -- where one view stands for all places, the others count for nothing
 pub alone : (vs : List View) (i : ℕ) (v : View)
@@ -176,12 +179,18 @@ alone (x ∷ vs) zero v f e t =
     let h = idle_views vs (λ i w g. f (suc i) w g) (omega arith) in
     let r : x.raised ≡ v.raised = ap (λ (y : View). y.raised) same in
     let c : x.code ≡ v.code = ap (λ (y : View). y.code) same in
-    let n : x.counted ≡ v.counted = ap (λ (y : View). y.counted) same in
-    (ap (λ l. x.claimed ++ l) h.0 ∙ append-nil x.claimed ∙ ap (λ (y : View). y.claimed) same,
-    omega (arith, h.1), omega (arith, h.2), omega (arith, h.3))
+    let n : x.counted ≡ v.counted = ap (λ (y : View). y.counted) same in (
+      ap (λ l. x.claimed ++ l) h.0 ∙ append-nil x.claimed ∙ ap (λ (y : View). y.claimed) same,
+      omega (arith, h.1),
+      omega (arith, h.2),
+      omega (arith, h.3),
+    )
 alone (x ∷ vs) (suc i) v f e t =
     let least = total_at (λ v. v.places) vs i v e in
     let a = f 0 x refl (omega arith) in
-    let h = alone vs i v (λ j w g. f (suc j) w g) e (omega arith) in
-    (ap (λ l. l ++ claims vs) a.0 ∙ h.0, omega (arith, a.1, h.1), omega (arith, a.2, h.2),
-    omega (arith, a.3, h.3))
+    let h = alone vs i v (λ j w g. f (suc j) w g) e (omega arith) in (
+      ap (λ l. l ++ claims vs) a.0 ∙ h.0,
+      omega (arith, a.1, h.1),
+      omega (arith, a.2, h.2),
+      omega (arith, a.3, h.3),
+    )

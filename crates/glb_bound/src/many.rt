@@ -167,7 +167,15 @@ where
         (S.cap_of search.now) root table.shared.key.limit r.1 r.0) }
 {
     let mut seat = dealer;
-    let found = gather_all(&table.shared, search, frontier, &mut seat, places, first, before)?;
+    let found = gather_all(
+        &table.shared,
+        search,
+        frontier,
+        &mut seat,
+        places,
+        first,
+        before,
+    )?;
     close(table, seat);
     Ok(found)
 }

@@ -4,8 +4,8 @@ ghost use Rattle.std.specs.Prelude.{OnOk, IfOk};
 ghost use Rattle.std.proofs.Common.{rules};
 ghost use Rattle.glb_laws.specs.Bounded.{greatest};
 
-use crate::search::{Best, Search};
 use crate::run_best;
+use crate::search::{Best, Search};
 use glb_laws::{Greatest, NoMemory, Program};
 use glb_tree::RunFault;
 use std::sync::atomic::{AtomicBool, Ordering};

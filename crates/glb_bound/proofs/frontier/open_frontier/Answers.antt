@@ -31,7 +31,7 @@ returns-then-visited-limit-clause-fault g c =
     let t : ((n ≤ old.worth) × (new ≡ old))
     ⊎ ((old.worth < n) × (new ≡ record { worth = n; item = item })) =
     elim c.if-worth-best.branch [
-      then-worth-best w ↦ inr (w.if-worth-best.true, w.best-is)
+      | then-worth-best w ↦ inr (w.if-worth-best.true, w.best-is)
       | else-worth-best w ↦ inl (w.if-worth-best.false, w.best-is)
     ] in
     let o = opened_on children worth cap (g.met.S.Search.caps_children c.args.search.now)
@@ -57,7 +57,7 @@ loop-items-preserved g c =
     let t : ((n ≤ old.worth) × (new ≡ old))
     ⊎ ((old.worth < n) × (new ≡ record { worth = n; item = item })) =
     elim c.if-worth-best.branch [
-      then-worth-best w ↦ inr (w.if-worth-best.true, w.best-is)
+      | then-worth-best w ↦ inr (w.if-worth-best.true, w.best-is)
       | else-worth-best w ↦ inl (w.if-worth-best.false, w.best-is)
     ] in
     let o = opened_on children worth cap (g.met.S.Search.caps_children c.args.search.now)

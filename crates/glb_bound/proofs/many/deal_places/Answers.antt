@@ -8,8 +8,7 @@ use Rattle.glb_bound.proofs.many.deal_places.Goals as goal
 pub deal-requires-clause-some : goal.deal-requires-clause-some
 deal-requires-clause-some g c =
     let more : c.args.places - c.loop.counter ≡ c.args.places - (c.loop.counter + 1) + 1 =
-    omega (arith, c.loop-test.true) in
-    (
+    omega (arith, c.loop-test.true) in (
       c.args.places - (c.loop.counter + 1),
       c.args.words.now.key.frontier,
       c.loop.invariant.dealt ∙ ap (λ n. (fresh n c.args.words.now.key.frontier, [])) more,

@@ -49,7 +49,7 @@ loop-item-preserved-then-more-eq-CHUNK g c =
           c.settle.ensures.settled
           (walking_on children worth cap (g.met.S.Search.caps_children c.args.search.now) root roots
           (c.loop-item.visited + c.loop-item.more) (c.loop-item.visited + (c.loop-item.more + 1))
-    c.loop-item.waiting.items c.pop.new.self.items
+          c.loop-item.waiting.items c.pop.new.self.items
           c.visit_shared.new.waiting.items c.in-Some.item c.loop-item.best c.visit_shared.new.best
           c.loop-item.seat.me.0 c.visit_shared.new.seat.me.0 (omega arith) c.in-Some.ensures.items
           (i.kept root roots old) s.passes s.item s.raised s.least));
@@ -72,7 +72,7 @@ loop-item-preserved g c =
       kept = λ root roots old.
           walking_on children worth cap (g.met.S.Search.caps_children c.args.search.now) root roots
           (c.loop-item.visited + c.loop-item.more) (c.loop-item.visited + (c.loop-item.more + 1))
-    c.loop-item.waiting.items c.pop.new.self.items
+          c.loop-item.waiting.items c.pop.new.self.items
           c.visit_shared.new.waiting.items c.in-Some.item c.loop-item.best c.visit_shared.new.best
           c.loop-item.seat.me.0 c.visit_shared.new.seat.me.0 (omega arith) c.in-Some.ensures.items
           (i.kept root roots old) s.passes s.item s.raised s.least;

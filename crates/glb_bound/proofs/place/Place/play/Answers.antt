@@ -46,17 +46,17 @@ loop-limit-preserved g c =
           c.walk_tree.new.self.seat.me.0.counted l c.walk_tree.new.self.best
           c.walk_tree.new.self.seat.me.0) on.0
           (walking_tree children worth cap c.args.frontier.now c.args.self.now.best
-    c.loop-limit.self.visited c.claim-number.result c.index-frontier-number.result
-    c.loop-limit.self.waiting.items c.walk_tree.new.self.waiting.items c.loop-limit.self.best
-    c.walk_tree.new.self.best c.loop-limit.self.seat.me.0 c.claim-number.new.seat.me.0
-    c.walk_tree.new.self.seat.me.0
-    (ap (λ m. m.0) c.claim-number.ensures.moved
-    ∙ claimed_some c.claim-number.result c.loop-limit.self.seat.me.0
-    (omega (arith, i.frontier, c.if-number-frontier.false)))
-    c.walk_tree.ensures.same i.empty c.if-number-frontier.false
-    (λ d. c.index-frontier-number.is ∙ get_same c.args.frontier.now c.claim-number.result
-    c.index-frontier-number.result d c.if-number-frontier.false)
-    i.visited c.in-Ok-true.ensures.kept i.walking root all node same));
+          c.loop-limit.self.visited c.claim-number.result c.index-frontier-number.result
+          c.loop-limit.self.waiting.items c.walk_tree.new.self.waiting.items c.loop-limit.self.best
+          c.walk_tree.new.self.best c.loop-limit.self.seat.me.0 c.claim-number.new.seat.me.0
+          c.walk_tree.new.self.seat.me.0
+          (ap (λ m. m.0) c.claim-number.ensures.moved
+          ∙ claimed_some c.claim-number.result c.loop-limit.self.seat.me.0
+          (omega (arith, i.frontier, c.if-number-frontier.false)))
+          c.walk_tree.ensures.same i.empty c.if-number-frontier.false
+          (λ d. c.index-frontier-number.is ∙ get_same c.args.frontier.now c.claim-number.result
+          c.index-frontier-number.result d c.if-number-frontier.false)
+          i.visited c.in-Ok-true.ensures.kept i.walking root all node same));
     }
 
 pub returns-in-Ok-false-clause-played : goal.returns-in-Ok-false-clause-played
@@ -78,15 +78,15 @@ returns-in-Ok-false-clause-played g c = λ _.
           c.walk_tree.new.self.waiting.items
           c.walk_tree.new.self.best c.walk_tree.new.self.seat.me.0) (sym e.visited.0)
           (walking_tree children worth cap c.args.frontier.now c.args.self.now.best
-    c.loop-limit.self.visited c.claim-number.result c.index-frontier-number.result
-    c.loop-limit.self.waiting.items c.walk_tree.new.self.waiting.items c.loop-limit.self.best
-    c.walk_tree.new.self.best c.loop-limit.self.seat.me.0 c.claim-number.new.seat.me.0
-    c.walk_tree.new.self.seat.me.0
-    (ap (λ m. m.0) c.claim-number.ensures.moved
-    ∙ claimed_some c.claim-number.result c.loop-limit.self.seat.me.0
-    (omega (arith, i.frontier, c.if-number-frontier.false)))
-    c.walk_tree.ensures.same i.empty c.if-number-frontier.false
-    (λ d. c.index-frontier-number.is ∙ get_same c.args.frontier.now c.claim-number.result
-    c.index-frontier-number.result d c.if-number-frontier.false)
-    i.visited c.in-Ok-false.ensures.kept i.walking root all node same);
+          c.loop-limit.self.visited c.claim-number.result c.index-frontier-number.result
+          c.loop-limit.self.waiting.items c.walk_tree.new.self.waiting.items c.loop-limit.self.best
+          c.walk_tree.new.self.best c.loop-limit.self.seat.me.0 c.claim-number.new.seat.me.0
+          c.walk_tree.new.self.seat.me.0
+          (ap (λ m. m.0) c.claim-number.ensures.moved
+          ∙ claimed_some c.claim-number.result c.loop-limit.self.seat.me.0
+          (omega (arith, i.frontier, c.if-number-frontier.false)))
+          c.walk_tree.ensures.same i.empty c.if-number-frontier.false
+          (λ d. c.index-frontier-number.is ∙ get_same c.args.frontier.now c.claim-number.result
+          c.index-frontier-number.result d c.if-number-frontier.false)
+          i.visited c.in-Ok-false.ensures.kept i.walking root all node same);
     }
