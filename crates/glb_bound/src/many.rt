@@ -45,7 +45,6 @@ fn deal_places<I: Copy + Drop>(
     for _ in 0..places {
         all.push(Place {
             seat: deal(words, dealer),
-            waiting: Vec::new(alloc),
             best,
             visited: 0,
             is_refused: false,
@@ -57,6 +56,7 @@ fn deal_places<I: Copy + Drop>(
 /// Plays all places, each on a thread of its own.
 fn play_all<R: Threads + Sync, S: Search<Item: Send + Sync> + Sync>(
     rt: &R,
+    alloc: Global,
     words: &Words,
     search: &S,
     frontier: &[S::Item],
@@ -79,7 +79,7 @@ where
         places,
         threads,
         &|_, place| {
-            place.play(words, search, frontier, limit);
+            place.play(alloc, words, search, frontier, limit);
         },
     );
 }
@@ -127,7 +127,6 @@ where
             best: found,
             visited: more,
             is_refused,
-            ..
         } = place;
         if is_refused {
             return Err(NoMemory);
@@ -217,7 +216,7 @@ where
     };
     let (table, mut dealer) = open_table(alloc, start)?;
     let mut all = deal_places(alloc, &table.shared, &mut dealer, best, places)?;
-    play_all(rt, &table.shared, search, &items, limit, best, &mut all);
+    play_all(rt, alloc, &table.shared, search, &items, limit, best, &mut all);
     finish(table, dealer, search, &items, all, best, visited)
 }
 

@@ -11,16 +11,25 @@ use super::rule::{Slip, Words};
 use super::search::{Best, Search};
 use super::steps::{claim, count, halt, halted, raise, read};
 use glb_laws::{MOST_ITEMS, NoMemory};
+use std::alloc::Global;
 
 /// So many items are visited between two counts.
 const CHUNK: u64 = 64;
 
-/// A place: its seat, the items that wait in the walk, the best that it has raised, how many items
-/// it has counted, and whether it found no memory.
+/// What a place works on, on the stack of its thread, so that no two places write side by side: the
+/// items that wait in its walk, the best that it has raised, and how many items it has counted.
+#[derive(Drop)]
+struct Work<I> {
+    waiting: Vec<I>,
+    best: Best<I>,
+    visited: u64,
+}
+
+/// A place: its seat, the best that it has raised, how many items it has counted, and whether it
+/// found no memory.
 #[derive(Drop)]
 pub(crate) struct Place<I> {
     pub seat: Slip,
-    pub waiting: Vec<I>,
     pub best: Best<I>,
     pub visited: u64,
     pub is_refused: bool,
@@ -139,43 +148,43 @@ where
     Ok(settle(words, seat, visited, more, limit))
 }
 
-impl<I: Copy + Drop> Place<I> {
+impl<I: Copy + Drop> Work<I> {
     /// Walks the tree of an item of the frontier. Whether the place may go on.
     fn walk_tree<S: Search<Item = I>>(
         &mut self,
         words: &Words,
         search: &S,
         root: I,
+        seat: &mut Slip,
         limit: u64,
     ) -> Result<bool, NoMemory>
-        requires table { (self.old.seat.table_id ≡ words.now.table_id)
+        requires table { (seat.old.table_id ≡ words.now.table_id)
             × (3 < words.now.table_id.words) }
-        requires one { self.old.seat.me.0.places ≡ 1 }
+        requires one { seat.old.me.0.places ≡ 1 }
         requires limit { (words.now.key.limit ≡ limit) × (limit ≤ MOST_ITEMS) }
-        requires visited { (self.old.visited ≡ self.old.seat.me.0.counted)
+        requires visited { (self.old.visited ≡ seat.old.me.0.counted)
             × (self.old.visited ≤ limit) }
-        ensures table { self.new.seat.table_id ≡ self.old.seat.table_id }
-        ensures slots { self.new.seat.me.1 ≡ self.old.seat.me.1 }
-        ensures same { SameClaims self.old.seat.me.0 self.new.seat.me.0 }
-        ensures refused { self.new.is_refused ≡ self.old.is_refused }
-        ensures visited { OnOk result ((self.new.visited ≡ self.new.seat.me.0.counted)
+        ensures table { seat.new.table_id ≡ seat.old.table_id }
+        ensures slots { seat.new.me.1 ≡ seat.old.me.1 }
+        ensures same { SameClaims seat.old.me.0 seat.new.me.0 }
+        ensures visited { OnOk result ((self.new.visited ≡ seat.new.me.0.counted)
             × (self.new.visited ≤ limit + 64)) }
         ensures on { IfOk result (λ on. on ≡ true → (self.new.waiting.items ≡ [])
             × (self.new.visited ≤ limit)) }
-        ensures off { IfOk result (λ on. on ≡ false → 1 ≤ self.new.seat.me.0.halted) }
+        ensures off { IfOk result (λ on. on ≡ false → 1 ≤ seat.new.me.0.halted) }
         ensures kept { OnOk result ((top : I) (roots : List I)
             → IsWalking (S.children search.now) (worth_of (S.value search.now))
-            (S.cap_of search.now) top roots self.old.seat.me.0.counted
-            (self.old.waiting.items ++ root ∷ []) self.old.best self.old.seat.me.0
+            (S.cap_of search.now) top roots seat.old.me.0.counted
+            (self.old.waiting.items ++ root ∷ []) self.old.best seat.old.me.0
             → IsWalking (S.children search.now) (worth_of (S.value search.now))
-            (S.cap_of search.now) top roots self.new.seat.me.0.counted self.new.waiting.items
-            self.new.best self.new.seat.me.0) }
+            (S.cap_of search.now) top roots seat.new.me.0.counted self.new.waiting.items
+            self.new.best seat.new.me.0) }
     {
         self.waiting.push(root)?;
         walk(
             words,
             search,
-            &mut self.seat,
+            seat,
             &mut self.waiting,
             &mut self.best,
             &mut self.visited,
@@ -185,8 +194,43 @@ impl<I: Copy + Drop> Place<I> {
 
     /// Claims items of the frontier and walks their trees, until none is left or the run is
     /// stopped.
+    fn walk_all<S: Search<Item = I>>(
+        &mut self,
+        words: &Words,
+        search: &S,
+        frontier: &[I],
+        seat: &mut Slip,
+        limit: u64,
+    ) -> Result<(), NoMemory>
+        requires table { (seat.old.table_id ≡ words.now.table_id)
+            × (3 < words.now.table_id.words) }
+        requires limit { (words.now.key.limit ≡ limit) × (limit ≤ MOST_ITEMS) }
+        requires fresh { seat.old.me ≡ (fresh 1 (length frontier.now), []) }
+        requires empty { (self.old.waiting.items ≡ []) × (self.old.visited ≡ 0) }
+        ensures table { seat.new.table_id ≡ seat.old.table_id }
+        ensures slots { seat.new.me.1 ≡ [] }
+        ensures one { seat.new.me.0.places ≡ 1 }
+        ensures played { OnOk result (HasPlayed (S.children search.now)
+            (worth_of (S.value search.now)) (S.cap_of search.now) frontier.now self.old.best 1
+            self.new.visited self.new.waiting.items self.new.best seat.new.me.0) }
+    {
+        loop {
+            let number = claim(words, seat) as usize;
+            if number >= frontier.len() {
+                return Ok(());
+            }
+            if !self.walk_tree(words, search, frontier[number], seat, limit)? {
+                return Ok(());
+            }
+        }
+    }
+}
+
+impl<I: Copy + Drop> Place<I> {
+    /// Takes part in a run to its end.
     pub(crate) fn play<S: Search<Item = I>>(
         &mut self,
+        alloc: Global,
         words: &Words,
         search: &S,
         frontier: &[I],
@@ -196,29 +240,27 @@ impl<I: Copy + Drop> Place<I> {
             × (3 < words.now.table_id.words) }
         requires limit { (words.now.key.limit ≡ limit) × (limit ≤ MOST_ITEMS) }
         requires fresh { self.old.seat.me ≡ (fresh 1 (length frontier.now), []) }
-        requires empty { (self.old.waiting.items ≡ []) × (self.old.visited ≡ 0)
-            × (self.old.is_refused ≡ false) }
+        requires found_memory { self.old.is_refused ≡ false }
         ensures table { self.new.seat.table_id ≡ self.old.seat.table_id }
         ensures slots { self.new.seat.me.1 ≡ [] }
-        ensures played { self.new.is_refused ≡ false
-            → HasPlayed (S.children search.now) (worth_of (S.value search.now))
-            (S.cap_of search.now) frontier.now self.old.best 1 self.new.visited
-            self.new.waiting.items self.new.best self.new.seat.me.0 }
+        ensures played { self.new.is_refused ≡ false → (waiting : List I)
+            × HasPlayed (S.children search.now) (worth_of (S.value search.now))
+            (S.cap_of search.now) frontier.now self.old.best 1 self.new.visited waiting
+            self.new.best self.new.seat.me.0 }
     {
-        loop {
-            let number = claim(words, &mut self.seat) as usize;
-            if number >= frontier.len() {
-                return;
-            }
-            match self.walk_tree(words, search, frontier[number], limit) {
-                Ok(true) => {}
-                Ok(false) => return,
-                Err(_) => {
-                    halt(words, &mut self.seat, 2);
-                    self.is_refused = true;
-                    return;
-                }
+        let mut work = Work {
+            waiting: Vec::new(alloc),
+            best: self.best,
+            visited: 0,
+        };
+        match work.walk_all(words, search, frontier, &mut self.seat, limit) {
+            Ok(()) => {}
+            Err(_) => {
+                halt(words, &mut self.seat, 2);
+                self.is_refused = true;
             }
         }
+        self.best = work.best;
+        self.visited = work.visited;
     }
 }

@@ -72,8 +72,6 @@ pub record IsReady {X : Type 0} (id : TableId) (frontier : ℕ) (first : Best X)
     : Type 0 where
   pub table : p.seat.table_id ≡ id
   pub fresh_view : p.seat.me ≡ (fresh 1 frontier, [])
-  pub empty : p.waiting.items ≡ []
-  pub none : p.visited ≡ 0
   pub found_memory : p.is_refused ≡ false
   pub best : p.best ≡ first
 
@@ -82,8 +80,8 @@ pub record IsDone {X : Type 0} (children : X → List X) (worth cap : X → ℕ)
     (frontier : List X) (first : Best X) (p : Place X) : Type 0 where
   pub table : p.seat.table_id ≡ id
   pub slots : p.seat.me.1 ≡ []
-  pub played : p.is_refused ≡ false → HasPlayed children worth cap frontier first 1 p.visited
-      p.waiting.items p.best p.seat.me.0
+  pub played : p.is_refused ≡ false → (waiting : List X)
+      × HasPlayed children worth cap frontier first 1 p.visited waiting p.best p.seat.me.0
 
 -- what a search has found that visited so many items
 pub record HasSearched {X : Type 0} (children : X → List X) (worth cap : X → ℕ) (root : X)

@@ -32,8 +32,6 @@ loop-preserved g c =
           (record {
             table = c.deal.ensures.table.1 ∙ c.loop.invariant.table;
             fresh_view = dealt.1;
-            empty = c.new.ensures.items;
-            none = refl;
             found_memory = refl;
             best = refl;
           }));

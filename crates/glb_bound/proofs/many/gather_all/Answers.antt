@@ -42,7 +42,7 @@ overflow_add-visited g c =
     c.args.first)) next i.done in
     let one = All-first (IsDone children worth cap c.args.words.now.table_id c.args.frontier.now
     c.args.first) c.in-Some.place c.next.new.self.rest.items all in
-    let q = one.played c.if-is_refused.false in
+    let q = (one.played c.if-is_refused.false).1 in
     omega (
       arith,
       i.played.2,
@@ -95,10 +95,11 @@ loop-place-preserved g c =
     let place = c.in-Some.place in
     let yielded = c.loop-place.yielded in
     let h = i.played in
+    let own = one.played c.if-is_refused.false in
     let together = played_together children worth cap c.args.frontier.now c.args.first
-    (length yielded) 1 h.0 place.visited h.1 place.waiting.items c.loop-place.best place.best
+    (length yielded) 1 h.0 place.visited h.1 own.0 c.loop-place.best place.best
     c.greater-best.result c.loop-place.seat.me.0 place.seat.me.0 c.greater-best.ensures h.3
-    (one.played c.if-is_refused.false) in
+    own.1 in
     record {
       whole = i.whole ∙ ap (λ l. yielded ++ l) next
           ∙ sym (append_assoc yielded (place ∷ []) c.next.new.self.rest.items);
@@ -107,13 +108,13 @@ loop-place-preserved g c =
           c.args.first) place c.next.new.self.rest.items all;
       played = (
         h.0 + place.visited,
-        h.1 ++ place.waiting.items,
+        h.1 ++ own.0,
         omega (arith, h.2),
         subst (HasPlayed children worth cap c.args.frontier.now c.args.first
-            (length (yielded ++ place ∷ [])) (h.0 + place.visited) (h.1 ++ place.waiting.items)
+            (length (yielded ++ place ∷ [])) (h.0 + place.visited) (h.1 ++ own.0)
             c.greater-best.result) (sym (ap (λ m. m.0) c.gather.ensures.me))
             (subst (λ n. HasPlayed children worth cap c.args.frontier.now c.args.first n
-            (h.0 + place.visited) (h.1 ++ place.waiting.items) c.greater-best.result
+            (h.0 + place.visited) (h.1 ++ own.0) c.greater-best.result
             (joined c.loop-place.seat.me.0 place.seat.me.0))
             (sym (length-append yielded (place ∷ []))) together),
       );
