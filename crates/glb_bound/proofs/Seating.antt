@@ -137,8 +137,8 @@ module _ (k : Start) where
       let both : View = joined v w in
       let spent : View = fresh 0 0 in
       let first : List View = set s.views id both in
-      let was : get_elem? s.views other ≡ some w = sym (set_else s.views id other both differ) ∙ there
-      in
+      let was : get_elem? s.views other ≡ some w =
+      sym (set_else s.views id other both differ) ∙ there in
       let f = h.each id v at in
       let g = h.each other w was in
       let apart : id ≢ other = λ e. differ (sym e) in
@@ -177,7 +177,8 @@ module _ (k : Start) where
             apart at was refl refl);
         each = λ j x e. ⊎_elim
             (λ p. subst (Fits k h.best h.claim h.items h.stop) p.1
-            (fresh_fits 0 h.best h.claim h.items h.stop 0 (omega arith) (λ o. absurd (omega arith))))
+            (fresh_fits 0 h.best h.claim h.items h.stop 0 (omega arith)
+            (λ o. absurd (omega arith))))
             (λ q. ⊎_elim
             (λ p. subst (Fits k h.best h.claim h.items h.stop) p.1
             (both_fit h.best h.claim h.items h.stop f g))

@@ -216,7 +216,16 @@ where
     };
     let (table, mut dealer) = open_table(alloc, start)?;
     let mut all = deal_places(alloc, &table.shared, &mut dealer, best, places)?;
-    play_all(rt, alloc, &table.shared, search, &items, limit, best, &mut all);
+    play_all(
+        rt,
+        alloc,
+        &table.shared,
+        search,
+        &items,
+        limit,
+        best,
+        &mut all,
+    );
     finish(table, dealer, search, &items, all, best, visited)
 }
 

@@ -1,5 +1,6 @@
 -- What a place of a search on threads does to its seat, to the items that wait, and to its best.
-use Rattle.std.specs.Prelude.{◌≡◌, ◌⊎◌, ℕ, ◌+◌, ◌*◌, ◌^◌, ◌<◌, ◌≤◌, false, List, [], ◌∷◌, ◌++◌, max, map, get_or, All}
+use Rattle.std.specs.Prelude.{◌≡◌, ◌⊎◌, ℕ, ◌+◌, ◌*◌, ◌^◌, ◌<◌, ◌≤◌, false, List, [], ◌∷◌, ◌++◌, max}
+use Rattle.std.specs.Prelude.{map, get_or, All}
 use Rattle.glb_tree.specs.Runs.{IsTooMany}
 use Rattle.atomic_table.specs.Seated.{TableId}
 use Rattle.glb_bound.specs.Best.{IsNode, IsBest}

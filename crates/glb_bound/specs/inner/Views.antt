@@ -1,5 +1,6 @@
 -- What a step does to the view of its seat.
-use Rattle.std.specs.Prelude.{◌≡◌, ℕ, suc, ◌+◌, ◌-◌, ◌<◌, ◌≤◌, ◌^◌, List, [], ◌∷◌, ◌++◌, max, cond, nat_lt}
+use Rattle.std.specs.Prelude.{◌≡◌, ℕ, suc, ◌+◌, ◌-◌, ◌<◌, ◌≤◌, ◌^◌, List, [], ◌∷◌, ◌++◌, max, cond}
+use Rattle.std.specs.Prelude.{nat_lt}
 use Rattle.atomic_table.specs.Table.{Step, Me}
 use Rattle.glb_bound.specs.declared.view.View.{View}
 

@@ -1,6 +1,7 @@
 use Rattle.std.proofs.Common.{◌≡◌, ◌≤◌, ◌<◌, ◌⊎◌, ◌∷◌, ◌++◌, inl, inr, ap, sym, ◌∙◌, arith}
 use Rattle.glb_bound.specs.Best.{worth_of}
-use Rattle.glb_bound.proofs.PlaceWalks.{first_removed, opened_first, opened_on}
+use Rattle.glb_bound.proofs.ListFacts.{first_removed}
+use Rattle.glb_bound.proofs.Opening.{opened_first, opened_on}
 use Rattle.glb_bound.proofs.Walking.{walk_exceeds}
 use Rattle.glb_bound.proofs.frontier.open_frontier.Goals.{then-worth-best, else-worth-best}
 use Rattle.glb_bound.proofs.frontier.open_frontier.Goals as goal

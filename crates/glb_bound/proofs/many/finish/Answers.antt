@@ -2,7 +2,7 @@ use Rattle.std.proofs.Common.{refl, sym, subst}
 use Rattle.std.specs.Prelude.{vec_len}
 use Rattle.glb_bound.specs.Best.{worth_of}
 use Rattle.glb_bound.specs.inner.Places.{HasSearched}
-use Rattle.glb_bound.proofs.PlaceWalks.{all_searched}
+use Rattle.glb_bound.proofs.Together.{all_searched}
 use Rattle.glb_bound.proofs.many.finish.Goals as goal
 
 pub returns : goal.returns

@@ -5,7 +5,7 @@ use Rattle.glb_bound.specs.Best.{worth_of}
 use Rattle.glb_bound.specs.inner.Views.{joined}
 use Rattle.glb_bound.specs.inner.Places.{IsDone, HasPlayed}
 use Rattle.glb_bound.proofs.Members.{All-first, All-others}
-use Rattle.glb_bound.proofs.PlaceWalks.{none_played, played_together, greater_least}
+use Rattle.glb_bound.proofs.Together.{none_played, played_together, greater_least}
 use Rattle.glb_bound.proofs.many.gather_all.Goals as goal
 
 pub loop-place-init : goal.loop-place-init

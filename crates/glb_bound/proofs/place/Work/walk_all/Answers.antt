@@ -1,7 +1,8 @@
 use Rattle.std.proofs.Common.{[], ap, ◌∙◌, sym, arith, rules, inr, subst}
 use Rattle.glb_bound.specs.Best.{worth_of}
 use Rattle.glb_bound.specs.inner.Places.{IsWalking, items_at}
-use Rattle.glb_bound.proofs.PlaceWalks.{get_same, claimed_none, claimed_some, played_out, walking_tree}
+use Rattle.glb_bound.proofs.ListFacts.{get_same}
+use Rattle.glb_bound.proofs.PlaceWalks.{claimed_none, claimed_some, played_out, walking_tree}
 use Rattle.glb_bound.proofs.place.Work.walk_all.Goals as goal
 
 pub returns-then-number-frontier-clause-played : goal.returns-then-number-frontier-clause-played
