@@ -1,3 +1,11 @@
 pub mod Members
 pub mod Covers
 pub mod Walking
+pub mod ViewSums
+pub mod Keeping
+pub mod Seating
+pub mod ListFacts
+pub mod WalksBeside
+pub mod PlaceWalks
+pub mod Opening
+pub mod Together

@@ -13,6 +13,7 @@ use Rattle.glb_tree.proofs.Sizes.{never_more}
 use Rattle.glb_tree.specs.Runs.{IsTooMany}
 use Rattle.glb_bound.specs.Best.{IsNode, IsBest}
 use Rattle.glb_bound.specs.inner.Walks.{Visits, IsWalked, TakesBest}
+use Rattle.glb_bound.specs.inner.Places.{Passes}
 use Rattle.glb_bound.proofs.Members.{left_are_nodes, root_is_node, either}
 use Rattle.glb_bound.proofs.Covers.{expansion_covers, all_covered_by_cap}
 
@@ -55,16 +56,15 @@ module _ {X : Type 0} (children : X → List X) (worth cap : X → ℕ) where
     covered = All-nil (λ x. cap x ≤ most);
   }
 
-  -- a visit takes the walk on
-  pub walk_on : ((x : X) → All (λ c. cap c ≤ cap x) (children x))
+  -- a visit takes the walk on, where others raise the best too
+  pub walk_passes : ((x : X) → All (λ c. cap c ≤ cap x) (children x))
       → (roots : List X) (visited : ℕ) (before after : List X) (x : X) (old new : ℕ)
       → IsWalked children worth cap roots visited (before ++ x ∷ []) old
-      → Visits children worth cap x before after old new
+      → Passes children worth cap x before after old new
       → IsWalked children worth cap roots (visited + 1) after new
-  walk_on caps_children roots visited before after x old new w v =
+  walk_passes caps_children roots visited before after x old new w v =
       let Walked : List X → Type 0 =
       λ l. IsWalked children worth cap roots (visited + 1) l new in
-      let le : old ≤ new = omega (arith, v.raised) in
       let first = expansion_order children roots w.done w.done _ _ (IsPermutation-refl w.done)
       (last_first before w.skipped x) w.expansion in
       let next : Expansion children roots (w.done ++ x ∷ []) (children x ++ (before ++ w.skipped)) =
@@ -74,11 +74,10 @@ module _ {X : Type 0} (children : X → List X) (worth cap : X → ℕ) where
       omega (arith, w.number, length-append w.done (x ∷ [])) in
       let bounded : All (λ y. worth y ≤ new) (w.done ++ x ∷ []) =
       All-append (λ y. worth y ≤ new) w.done (x ∷ [])
-      (All-raise worth old new w.done le w.bounded)
-      (All-cons (λ y. worth y ≤ new) x [] (omega (arith, v.raised))
-      (All-nil (λ y. worth y ≤ new))) in
+      (All-raise worth old new w.done v.least w.bounded)
+      (All-cons (λ y. worth y ≤ new) x [] v.own (All-nil (λ y. worth y ≤ new))) in
       let covered : All (λ y. cap y ≤ new) w.skipped =
-      All-raise cap old new w.skipped le w.covered in
+      All-raise cap old new w.skipped v.least w.covered in
       let kept : after ≡ before ++ children x → Walked after =
       λ e. subst Walked (sym e) (record {
         done = w.done ++ x ∷ [];
@@ -101,6 +100,19 @@ module _ {X : Type 0} (children : X → List X) (worth cap : X → ℕ) where
             (All-raise cap (cap x) new (children x) h.1 (caps_children x)) covered;
       }) in
       either kept left_out v.waiting
+
+  -- a visit takes the walk on
+  pub walk_on : ((x : X) → All (λ c. cap c ≤ cap x) (children x))
+      → (roots : List X) (visited : ℕ) (before after : List X) (x : X) (old new : ℕ)
+      → IsWalked children worth cap roots visited (before ++ x ∷ []) old
+      → Visits children worth cap x before after old new
+      → IsWalked children worth cap roots (visited + 1) after new
+  walk_on caps_children roots visited before after x old new w v =
+      walk_passes caps_children roots visited before after x old new w (record {
+        waiting = v.waiting;
+        least = omega (arith, v.raised);
+        own = omega (arith, v.raised);
+      })
 
   -- what waits in a walk of a root's tree is nodes
   pub last_is_node : (root : X) (visited : ℕ) (before : List X) (x : X) (most : ℕ)

@@ -1,1 +1,4 @@
 pub mod Walks
+pub mod Views
+pub mod Rule
+pub mod Places

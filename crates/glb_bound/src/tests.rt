@@ -3,6 +3,8 @@ ghost use Rattle.std.specs.Prelude.{◌≡◌, ◌≤◌, ◌∷◌, [], min, On
 ghost use Rattle.std.proofs.Common.{rules};
 ghost use Rattle.glb_laws.specs.Bounded.{greatest};
 
+mod fan;
+
 use super::best_one;
 use super::search::{Best, Search};
 use glb_laws::{Greatest, NoMemory, Program};

@@ -1,6 +1,8 @@
 -- A walk through a tree that leaves out what cannot be better.
-use Rattle.std.specs.Prelude.{◌≡◌, ◌⊎◌, ℕ, ◌≤◌, List, ◌++◌, length, max, All}
+use Rattle.std.specs.Prelude.{◌≡◌, ◌⊎◌, ℕ, ◌≤◌, List, [], ◌∷◌, ◌++◌, length, max, All}
 use Rattle.glb_laws.specs.Expansion.{Expansion}
+use Rattle.glb_bound.specs.Best.{IsNode}
+use Rattle.glb_bound.specs.declared.search.Best.{Best}
 
 -- a visit of x, with `before` waiting and the best `old`: the children of x wait too, or they are
 -- left out, since no item of their trees is worth more than the best so raised
@@ -19,6 +21,13 @@ pub record IsWalked {X : Type 0} (children : X → List X) (worth cap : X → �
   pub expansion : Expansion children roots done (waiting ++ skipped)
   pub bounded : All (λ x. worth x ≤ most) done
   pub covered : All (λ x. cap x ≤ most) skipped
+
+-- a walk of a root's tree that has left nothing out, and the best of what was visited
+pub record IsOpened {X : Type 0} (children : X → List X) (worth cap : X → ℕ) (root : X)
+    (visited : ℕ) (waiting : List X) (best : Best X) : Type 0 where
+  pub walked : IsWalked children worth cap (root ∷ []) visited waiting best.worth
+  pub node : IsNode children root best.item
+  pub worth_is : worth best.item ≡ best.worth
 
 -- the best stays, or is the item x
 abbrev pub TakesBest : {X : Type 0} → (X → ℕ) → X → X → ℕ → X → ℕ → Type 0
