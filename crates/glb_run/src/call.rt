@@ -237,9 +237,9 @@ fn refuse_words<E: Sink>(err: &mut E, fault: OrderFault) -> Status
     }
 }
 
-/// Does all that the program does: reads the words, the source where the job is on what it gives, runs
-/// the job, and writes its report. The first refusal ends it, and goes to `err` as one line. A job that
-/// runs on threads passes the gate once at each expansion; no other job passes it.
+/// Does all that the program does: reads the words, the source where the job is on what it gives,
+/// runs the job, and writes its report. The first refusal ends it, and goes to `err` as one line. A
+/// job that runs on threads passes the gate once at each expansion; no other job passes it.
 pub fn top<R: Threads + Wait + Sync, S: Source, K: Sink, E: Sink, G: Gate + Sync>(
     rt: &R,
     alloc: Global,

@@ -115,12 +115,7 @@ const KNAPS: [(&str, GraphKind, u64, &str); 4] = [
         2,
         "glb: line 2: bad line\n",
     ),
-    (
-        "65 0\n",
-        GraphKind::TooLarge,
-        1,
-        "glb: line 1: too large\n",
-    ),
+    ("65 0\n", GraphKind::TooLarge, 1, "glb: line 1: too large\n"),
     ("2 1\n2 5\n", GraphKind::BadEnd, 3, "glb: line 3: bad end\n"),
     ("", GraphKind::BadEnd, 1, "glb: line 1: bad end\n"),
 ];
