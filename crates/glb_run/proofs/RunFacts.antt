@@ -14,6 +14,10 @@ use Rattle.glb_words.specs.declared.settings.Job.{Job}
 use Rattle.glb_words.specs.declared.settings.Job.TheVariants as job
 use Rattle.glb_tree.specs.declared.run.RunFault.{RunFault}
 use Rattle.glb_tree.specs.declared.run.RunFault.TheVariants as run_fault
+use Rattle.glb_graph.specs.Reading.{HasTextFault}
+use Rattle.glb_graph.specs.declared.text.GraphFault.{GraphFault}
+use Rattle.glb_graph.specs.declared.text.GraphFault.TheVariants as graph_fault
+use Rattle.glb_knap.specs.KnapText.{HasTextFault as HasKnapFault}
 use Rattle.glb_uts.specs.Descriptors.{root_descriptor}
 use Rattle.glb_uts.specs.declared.uts.Uts.{Uts}
 use Rattle.glb_uts.specs.declared.node.Node.{Node}
@@ -21,13 +25,18 @@ use Rattle.glb_run.specs.declared.job.Task.{Task}
 use Rattle.glb_run.specs.declared.order.Order.{Order}
 use Rattle.glb_run.specs.declared.status.Status.{Status}
 use Rattle.glb_run.specs.declared.status.Status.TheVariants as status
+use Rattle.glb_run.specs.declared.reading.ReadStop.{ReadStop}
+use Rattle.glb_run.specs.declared.reading.ReadStop.TheVariants as read_stop
 use Rattle.glb_run.specs.Streams.{Stream, Change, CallRule, IsUntouched, IsOneCall, Reads}
+use Rattle.glb_run.specs.Streams.{ReadsAll}
 use Rattle.glb_run.specs.Orders.{read_order}
 use Rattle.glb_run.specs.Ends.{ReadsSource, HasRead, HasRun, StatusSays, IsTold, limit_of, Ends}
 use Rattle.glb_run.specs.FaultText.{fault_text}
 use Rattle.glb_run.specs.Jobs.{IsReport, IsReportOf, HasTooManyOf, tree_of, root_of}
-use Rattle.glb_run.specs.inner.Stops.{Wrote, Finishes, status_of, order_status}
-use Rattle.glb_run.specs.inner.Tasks.{IsTaskOf, IsPrepared, IsTaskReport, StopsTask}
+use Rattle.glb_run.specs.inner.Stops.{Wrote, Finishes, StopsReading, status_of, order_status}
+use Rattle.glb_run.specs.inner.Stops.{read_status, graph_status, knap_status}
+use Rattle.glb_run.specs.inner.Tasks.{IsTaskOf, IsPrepared, IsUnprepared, GivesNone}
+use Rattle.glb_run.specs.inner.Tasks.{IsTaskReport, StopsTask}
 
 -- a tree, by its fields
 pub tree_same : (tree : Uts) (b0 m q seed : ℕ) → tree.b0 ≡ b0 → tree.m ≡ m → tree.q ≡ q
@@ -52,6 +61,8 @@ task_report (job.Trial k) order input t text is report =
     subst (λ u. IsTaskReport u order text) is report
 task_report job.Dist order input t text is report =
     (is.0, is.1, subst (λ u. IsTaskReport u order text) is.2 report)
+task_report job.Knap order input t text is report =
+    (is.0, is.1, subst (λ u. IsTaskReport u order text) is.2 report)
 
 -- a task that is too large is that of a job that is
 task_large : (j : Job) (order : Order) (input : List ℕ) (t : Task) (items : ℕ) → IsTaskOf j input t
@@ -63,6 +74,8 @@ task_large (job.Uts b0 m q seed) order input t items is large =
 task_large (job.Trial k) order input t items is large =
     subst (λ u. StopsTask u order (run_fault.TooMany items)) is large
 task_large job.Dist order input t items is large =
+    (is.0, is.1, subst (λ u. StopsTask u order (run_fault.TooMany items)) is.2 large)
+task_large job.Knap order input t items is large =
     (is.0, is.1, subst (λ u. StopsTask u order (run_fault.TooMany items)) is.2 large)
 
 -- bytes that were taken one piece after the other
@@ -81,6 +94,7 @@ read_or_not (job.Queens n) input source read = inl read.1
 read_or_not (job.Uts b0 m q seed) input source read = inl read.1
 read_or_not (job.Trial k) input source read = inl read.1
 read_or_not job.Dist input source read = inr (tt, (input, read.reads))
+read_or_not job.Knap input source read = inr (tt, (input, read.reads))
 
 -- a read without a fault after others
 pub reads_more : {S : Type 0} (first middle last : Stream S) (xs ys : List ℕ)
@@ -104,6 +118,56 @@ module _ {S K : Type 0} (IsCall : CallRule K) (order : Order) (source : Change S
   wrote input report (status.TooMany items) read is w = absurd w
   wrote input report (status.WriteFault taken) read is w = (input, read, (report, is, w))
   wrote input report status.NoMemory read is w = absurd w
+  wrote input report (status.BadKnap kind line) read is w = absurd w
+
+  -- a source that was not read to its end
+  not_read : (e : ReadStop) → StopsReading e source → ReadsSource order.job → IsUntouched out
+      → HasRun order IsCall source out (read_status e)
+  not_read read_stop.Fault stops reads same = (reads, same, stops)
+  not_read read_stop.TooLong stops reads same = (reads, same, stops)
+  not_read read_stop.NoMemory stops reads same = (same, inr (reads, stops))
+
+  -- an input that is no graph text
+  no_graph : (input : List ℕ) (fault : GraphFault) → order.job ≡ job.Dist → ReadsAll input source
+      → HasTextFault input fault → IsUntouched out
+      → HasRun order IsCall source out (graph_status fault)
+  no_graph input (graph_fault.BadLine line) is all has same = (is, same, (input, all, has))
+  no_graph input (graph_fault.TooLarge line) is all has same = (is, same, (input, all, has))
+  no_graph input (graph_fault.BadEnd line) is all has same = (is, same, (input, all, has))
+  no_graph input graph_fault.NoMemory is all has same =
+      (same, inr (subst ReadsSource (sym is) tt, (input, all.reads)))
+
+  -- an input that is no knapsack text
+  no_knap : (input : List ℕ) (fault : GraphFault) → order.job ≡ job.Knap → ReadsAll input source
+      → HasKnapFault input fault → IsUntouched out
+      → HasRun order IsCall source out (knap_status fault)
+  no_knap input (graph_fault.BadLine line) is all has same = (is, same, (input, all, has))
+  no_knap input (graph_fault.TooLarge line) is all has same = (is, same, (input, all, has))
+  no_knap input (graph_fault.BadEnd line) is all has same = (is, same, (input, all, has))
+  no_knap input graph_fault.NoMemory is all has same =
+      (same, inr (subst ReadsSource (sym is) tt, (input, all.reads)))
+
+  -- a job that the source gave nothing for
+  given_none : (j : Job) (s : Status) → order.job ≡ j → GivesNone j source s → IsUntouched out
+      → HasRun order IsCall source out s
+  given_none (job.Queens n) s is none same = absurd none
+  given_none (job.Uts b0 m q seed) s is none same = absurd none
+  given_none (job.Trial k) s is none same = absurd none
+  given_none job.Dist s is none same =
+      ⊎_elim (λ stops. subst (HasRun order IsCall source out) (sym stops.2)
+      (not_read stops.0 stops.1 (subst ReadsSource (sym is) tt) same))
+      (λ bad. subst (HasRun order IsCall source out) (sym bad.4)
+      (no_graph bad.0 bad.1 is bad.2 bad.3 same)) none
+  given_none job.Knap s is none same =
+      ⊎_elim (λ stops. subst (HasRun order IsCall source out) (sym stops.2)
+      (not_read stops.0 stops.1 (subst ReadsSource (sym is) tt) same))
+      (λ bad. subst (HasRun order IsCall source out) (sym bad.4)
+      (no_knap bad.0 bad.1 is bad.2 bad.3 same)) none
+
+  -- an order whose task was not prepared
+  pub unprepared : (s : Status) → IsUnprepared order source s → IsUntouched out
+      → HasRun order IsCall source out s
+  unprepared s none same = given_none order.job s refl none same
 
   -- a run that ended early
   ended : (t : Task) → IsPrepared order source t → (fault : RunFault) → StopsTask t order fault
@@ -134,6 +198,7 @@ module _ {S K : Type 0} (IsCall : CallRule K) (order : Order) (source : Change S
   caused read e (status.BadGraph kind line) run = (order, e, run)
   caused read e (status.TooMany items) run = (order, e, run)
   caused read e (status.WriteFault taken) run = (order, e, run)
+  caused read e (status.BadKnap kind line) run = (order, e, run)
   caused read e status.NoMemory run =
       (run.0, ⊎_elim (λ same. inl same) (λ reads. inr (order, e, (run.0, inr reads))) run.1)
 
@@ -150,6 +215,7 @@ module _ {E : Type 0} (IsCall : CallRule E) (err : Change E) where
   told_fault limit (status.TooMany items) other tells = tells
   told_fault limit (status.WriteFault taken) other tells = tells
   told_fault limit status.NoMemory other tells = tells
+  told_fault limit (status.BadKnap kind line) other tells = tells
 
   -- one call of a sink with a text tells it, whatever comes of it
   pub told_line : {F : Type 0} (piece text : Text) → piece ≡ text → (r : Result (Unit {0}) (F × ℕ))

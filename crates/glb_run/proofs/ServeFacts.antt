@@ -15,6 +15,9 @@ use Rattle.glb_graph.specs.Reading.{IsTextOf}
 use Rattle.glb_graph.specs.Spots.{spot_children}
 use Rattle.glb_graph.specs.declared.dist.Spot.TheVariants.{Root}
 use Rattle.glb_graph.proofs.TextFacts.{one_reading}
+use Rattle.glb_knap.specs.KnapText as knap
+use Rattle.glb_knap.specs.Packs.{Problem}
+use Rattle.glb_knap.proofs.TextFacts.{one_reading as one_knap_reading}
 use Rattle.glb_run.specs.declared.order.Order.{Order}
 use Rattle.glb_run.specs.declared.status.Status.{Status}
 use Rattle.glb_run.specs.declared.status.Status.TheVariants as status
@@ -23,6 +26,7 @@ use Rattle.glb_run.specs.Runs.{IsWithin}
 use Rattle.glb_run.specs.Streams.{Change, CallRule, Reads, ReadsAll}
 use Rattle.glb_run.specs.Ends.{ReadsSource, HasRead, HasRun, Ends}
 use Rattle.glb_run.specs.Jobs.{IsWithinLimitOf, IsWithinLimit, HasTooManyOf}
+use Rattle.glb_run.specs.Jobs.{IsKnapText, IsSearchWithin}
 use Rattle.glb_run.specs.Completeness.{IsCalm, TellsInput, IsServable, IsComplete}
 
 -- bytes that are told after they were taken began with what was taken
@@ -79,6 +83,23 @@ no_fault bytes rows kind line a says =
     let e = one_reading bytes _ _ a.says says in
     absurd (cc)
 
+-- the knapsack of a reading
+problem_in : knap.Reading → Problem
+problem_in (knap.Carries capacity lines) = record { capacity = capacity; lines = lines }
+problem_in (knap.Fault kind line) = record { capacity = 0; lines = [] }
+
+-- bytes are text of one knapsack
+one_knap : (bytes : List ℕ) (p q : Problem) → IsKnapText bytes p → IsKnapText bytes q → p ≡ q
+unfolding problem_in
+one_knap bytes p q a b = ap problem_in (one_knap_reading bytes _ _ a b)
+
+-- knapsack text has no fault
+no_knap_fault : (bytes : List ℕ) (p : Problem) (kind : FaultKind) (line : ℕ) → IsKnapText bytes p
+    → knap.BytesSay bytes (knap.Fault kind line) → ⊥
+no_knap_fault bytes p kind line a says =
+    let e = one_knap_reading bytes _ _ a says in
+    absurd (cc)
+
 -- trees within the limit are not too large
 not_large : {S : Type 0} (j : Job) (order : Order) (source : Change S) (input read : List ℕ)
     (items : ℕ)
@@ -97,12 +118,25 @@ not_large job.Dist order source input read items tells has small large =
     (subst (λ bytes. IsTextOf bytes large.0) same large.1) in
     large.2.many.large
     (subst (λ r. IsWithin (spot_children r) order Root) rows small.2)
+not_large job.Knap order source input read items tells has small large =
+    let same = read_whole source input (tells tt) read has in
+    let problem = one_knap input small.0 large.0 small.1
+    (subst (λ bytes. IsKnapText bytes large.0) same large.1) in
+    large.2.large (subst (λ p. IsSearchWithin p order) problem small.2)
 
 -- the input of a job that is the distances of a graph is graph text
 says_graph : (j : Job) (order : Order) (input : List ℕ) → j ≡ job.Dist
     → IsWithinLimitOf j order input
     → (rows : List (List ℕ)) × IsTextOf input rows
 says_graph j order input is small =
+    let h = subst (λ i. IsWithinLimitOf i order input) is small in
+    (h.0, h.1)
+
+-- the input of a job that is a knapsack is knapsack text
+says_knap : (j : Job) (order : Order) (input : List ℕ) → j ≡ job.Knap
+    → IsWithinLimitOf j order input
+    → (problem : Problem) × IsKnapText input problem
+says_knap j order input is small =
     let h = subst (λ i. IsWithinLimitOf i order input) is small in
     (h.0, h.1)
 
@@ -134,6 +168,12 @@ module _ {S K : Type 0} (IsCall : CallRule K) (source : Change S) (out : Change 
       absurd (not_large order.job order source input run.1.0 items tells run.1.1 small run.1.2)
   served (status.WriteFault taken) run = absurd (calm run.2.2.rose)
   served status.NoMemory run = inr refl
+  served (status.BadKnap kind line) run =
+      let is = run.0 in
+      let problem = says_knap order.job order input is small in
+      let same = read_whole source input (tells (subst ReadsSource (sym is) tt)) run.2.0 run.2.1 in
+      absurd (no_knap_fault input problem.0 _ line problem.1
+      (subst (λ bytes. knap.BytesSay bytes _) same run.2.2))
 
 module _ {S K E : Type 0} (calm_words : Bool) (words : List Text) (OutCall : CallRule K)
     (ErrCall : CallRule E)
@@ -160,5 +200,7 @@ module _ {S K E : Type 0} (calm_words : Bool) (words : List Text) (OutCall : Cal
   complete (status.TooMany items) ends h calm =
       of_order _ ends.cause.0 ends.cause.1 ends.cause.2 h calm
   complete (status.WriteFault taken) ends h calm =
+      of_order _ ends.cause.0 ends.cause.1 ends.cause.2 h calm
+  complete (status.BadKnap kind line) ends h calm =
       of_order _ ends.cause.0 ends.cause.1 ends.cause.2 h calm
   complete status.NoMemory ends h calm = inr refl

@@ -12,3 +12,4 @@ code_of (status.BadGraph kind line) = 5
 code_of (status.TooMany items) = 6
 code_of (status.WriteFault taken) = 7
 code_of status.NoMemory = 8
+code_of (status.BadKnap kind line) = 9

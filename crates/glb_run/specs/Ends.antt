@@ -7,6 +7,7 @@ use Rattle.glb_words.specs.declared.settings.Job.{Job}
 use Rattle.glb_words.specs.declared.settings.Job.TheVariants as job
 use Rattle.glb_graph.specs.GraphText.{BytesSay, Fault}
 use Rattle.glb_graph.specs.GraphText as text
+use Rattle.glb_knap.specs.KnapText as knap_text
 use Rattle.glb_run.specs.declared.order.Order.{Order}
 use Rattle.glb_run.specs.declared.status.GraphKind.{GraphKind}
 use Rattle.glb_run.specs.declared.status.GraphKind.TheVariants as graph_kind
@@ -24,14 +25,16 @@ ReadsSource (job.Queens n) = ⊥
 ReadsSource (job.Uts b0 m q seed) = ⊥
 ReadsSource job.Dist = Unit {0}
 ReadsSource (job.Trial k) = ⊥
+ReadsSource job.Knap = Unit {0}
 
--- what the command reads of the source: all for the distances of a graph, and for other jobs
--- nothing, by no call
+-- what the command reads of the source: all for the distances of a graph and for a knapsack, and
+-- for other jobs nothing, by no call
 abbrev pub HasRead : {S : Type 0} → Job → List ℕ → Change S → Type 0
 HasRead (job.Queens n) input source = (input ≡ []) × IsUntouched source
 HasRead (job.Uts b0 m q seed) input source = (input ≡ []) × IsUntouched source
 HasRead job.Dist input source = ReadsAll input source
 HasRead (job.Trial k) input source = (input ≡ []) × IsUntouched source
+HasRead job.Knap input source = ReadsAll input source
 
 abbrev pub graph_kind_of : GraphKind → text.FaultKind
 graph_kind_of graph_kind.BadLine = text.BadLine
@@ -60,6 +63,10 @@ HasRun order IsCall source out (status.WriteFault taken) =
 HasRun order IsCall source out status.NoMemory =
     IsUntouched out
     × (IsUntouched source ⊎ (ReadsSource order.job × ((input : List ℕ) × Reads input source)))
+HasRun order IsCall source out (status.BadKnap kind line) =
+    (order.job ≡ job.Knap) × IsUntouched out
+    × ((input : List ℕ) × ReadsAll input source
+    × knap_text.BytesSay input (knap_text.Fault (graph_kind_of kind) line))
 
 -- what the status says of the words, of the source and of `out`
 abbrev pub StatusSays : {S K : Type 0} → Result Order WordFault → CallRule K → Change S

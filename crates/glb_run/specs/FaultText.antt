@@ -37,6 +37,8 @@ fault_told limit (status.BadGraph kind line) =
 fault_told limit (status.TooMany items) = codes "more than " ++ decimal limit ++ codes " items"
 fault_told limit (status.WriteFault taken) = codes "write fault"
 fault_told limit status.NoMemory = codes "out of memory"
+fault_told limit (status.BadKnap kind line) =
+    codes "line " ++ decimal line ++ codes ": " ++ graph_kind_text kind
 
 -- the whole line
 abbrev pub fault_text : ℕ → Status → Text

@@ -1,6 +1,7 @@
 -- The trees of each job, and its report.
-use Rattle.std.specs.Prelude.{◌≡◌, ◌⊎◌, ℕ, true, List, [], ◌++◌, length}
+use Rattle.std.specs.Prelude.{◌≡◌, ◌⊎◌, ℕ, true, List, [], ◌∷◌, ◌++◌, length}
 use Rattle.glb_laws.specs.Bounded.{sat_sum, capped_sum}
+use Rattle.glb_laws.specs.Tree.{IsSmall}
 use Rattle.glb_laws.specs.declared.sat_sum.SatSum.{SatSum}
 use Rattle.glb_words.specs.Rules.{Text}
 use Rattle.glb_words.specs.declared.settings.Job.{Job}
@@ -14,9 +15,13 @@ use Rattle.glb_graph.specs.Rows.{edges_of}
 use Rattle.glb_graph.specs.Spots.{spot_children, spot_value}
 use Rattle.glb_graph.specs.Reading.{IsTextOf}
 use Rattle.glb_graph.specs.declared.dist.Spot.TheVariants.{Root}
+use Rattle.glb_tree.specs.Runs.{IsTooMany}
+use Rattle.glb_knap.specs.KnapText.{BytesSay, Carries}
+use Rattle.glb_knap.specs.Choices.{IsOptimum}
+use Rattle.glb_knap.specs.Packs.{Problem, packs_below, empty_pack}
 use Rattle.glb_run.specs.declared.order.Order.{Order}
 use Rattle.glb_laws.specs.Tallies.{no_tallies, join_tallies}
-use Rattle.glb_run.specs.Reports.{queens_text, uts_text, dist_text, trial_line}
+use Rattle.glb_run.specs.Reports.{queens_text, uts_text, dist_text, trial_line, knap_text}
 use Rattle.glb_run.specs.Runs.{IsTreeReport, IsTooLarge, IsWithin}
 use Rattle.glb_run.specs.Trials.{trial_graph}
 
@@ -65,6 +70,26 @@ pub record IsTrialReport (k : ℕ) (order : Order) (text : Text) : Type 0 where
   pub graph : IsDistReport (trial_graph k) order graph_text
   pub whole : text ≡ trial_line k ++ tree_text ++ graph_text
 
+-- the bytes are the text of this knapsack
+abbrev pub IsKnapText : List ℕ → Problem → Type 0
+IsKnapText bytes problem = BytesSay bytes (Carries problem.capacity problem.lines)
+
+-- a knapsack: the greatest value of lines that can be carried together
+pub record IsKnapReport (problem : Problem) (text : Text) : Type 0 where
+  pub most : ℕ
+  pub optimum : IsOptimum problem.capacity problem.lines most
+  pub whole : text ≡ knap_text (length problem.lines) problem.capacity most
+
+-- the tree of its packs has more nodes than the order's limit, and so many were visited
+abbrev pub IsSearchTooLarge : Problem → Order → ℕ → Type 0
+IsSearchTooLarge problem order items =
+    IsTooMany (packs_below problem) (empty_pack ∷ []) order.params.limit items
+
+-- it has no more nodes than the order's limit
+abbrev pub IsSearchWithin : Problem → Order → Type 0
+IsSearchWithin problem order =
+    IsSmall (packs_below problem) (empty_pack ∷ []) order.params.limit
+
 -- the report of a job, where the source gave this input
 abbrev pub IsReportOf : Job → Order → List ℕ → Text → Type 0
 IsReportOf (job.Queens n) order input text = IsQueensReport n order text
@@ -72,6 +97,8 @@ IsReportOf (job.Uts b0 m q seed) order input text = IsUtsReport (tree_of b0 m q 
 IsReportOf job.Dist order input text =
     (rows : List (List ℕ)) × IsTextOf input rows × IsDistReport rows order text
 IsReportOf (job.Trial k) order input text = IsTrialReport k order text
+IsReportOf job.Knap order input text =
+    (problem : Problem) × IsKnapText input problem × IsKnapReport problem text
 
 -- the report of the order's job
 abbrev pub IsReport : Order → List ℕ → Text → Type 0
@@ -89,6 +116,8 @@ HasTooManyOf job.Dist order input items =
 HasTooManyOf (job.Trial k) order input items =
     IsTooLarge (binomial.children (trial_tree k)) (root_of k) order items
     ⊎ IsTooLarge (spot_children (trial_graph k)) Root order items
+HasTooManyOf job.Knap order input items =
+    (problem : Problem) × IsKnapText input problem × IsSearchTooLarge problem order items
 
 -- the same of the order's job
 abbrev pub HasTooMany : Order → List ℕ → ℕ → Type 0
@@ -107,6 +136,8 @@ IsWithinLimitOf job.Dist order input =
 IsWithinLimitOf (job.Trial k) order input =
     IsWithin (binomial.children (trial_tree k)) order (root_of k)
     × IsWithin (spot_children (trial_graph k)) order Root
+IsWithinLimitOf job.Knap order input =
+    (problem : Problem) × IsKnapText input problem × IsSearchWithin problem order
 
 -- the same of the order's job
 abbrev pub IsWithinLimit : Order → List ℕ → Type 0

@@ -64,6 +64,12 @@ dist_text vertices edges spread roots items tallies =
     ++ line_text (codes "sum") (tallies.1.0.0 ∷ [])
     ++ line_text (codes "greatest") (tallies.1.1.0 ∷ [])
 
+-- the number of lines and the capacity of a knapsack, and the best worth
+abbrev pub knap_text : ℕ → ℕ → ℕ → Text
+knap_text lines capacity worth =
+    line_text (codes "knap") (lines ∷ capacity ∷ [])
+    ++ line_text (codes "best") (worth ∷ [])
+
 -- the lines of the places, each with its roots where the start is spread
 abbrev pub places_text : Bool → List ℕ → List Counters → Text
 places_text false roots counters = stats_text counters

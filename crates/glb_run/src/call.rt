@@ -9,8 +9,10 @@ ghost use Rattle.glb_run.specs.Orders.{OrderFits};
 ghost use Rattle.glb_run.specs.Streams.{change, ReadsAll};
 ghost use Rattle.glb_run.specs.Ends.{HasRun, IsTold, Ends};
 ghost use Rattle.glb_run.specs.Completeness.{IsComplete};
-ghost use Rattle.glb_run.specs.inner.Stops.{Wrote, Finishes, GivesNoGraph, status_of as status_for};
-ghost use Rattle.glb_run.specs.inner.Stops.{graph_status, read_status, order_status};
+ghost use Rattle.glb_run.specs.Jobs.{IsKnapText};
+ghost use Rattle.glb_run.specs.inner.Stops.{Wrote, Finishes, GivesNoGraph, GivesNoKnap};
+ghost use Rattle.glb_run.specs.inner.Stops.{status_of as status_for, read_status, graph_status};
+ghost use Rattle.glb_run.specs.inner.Stops.{knap_status, order_status};
 ghost use Rattle.glb_run.specs.inner.Tasks.{IsPrepared, IsUnprepared, TaskFits};
 
 use super::fault_text::fault_line;
@@ -22,6 +24,7 @@ use super::status::{GraphKind, Status};
 use super::threaded::report;
 use glb_graph::{Graph, GraphFault, read_graph};
 use glb_io::{Sink, Source};
+use glb_knap::{Knap, read_knap};
 use glb_tree::RunFault;
 use glb_words::{Job, OrderFault, WordFault};
 use std::alloc::Global;
@@ -58,6 +61,26 @@ fn graph_status(fault: GraphFault) -> Status
     }
 }
 
+fn knap_status(fault: GraphFault) -> Status
+    ensures { result ≡ knap_status fault }
+{
+    match fault {
+        GraphFault::BadLine { line } => Status::BadKnap {
+            kind: GraphKind::BadLine,
+            line,
+        },
+        GraphFault::TooLarge { line } => Status::BadKnap {
+            kind: GraphKind::TooLarge,
+            line,
+        },
+        GraphFault::BadEnd { line } => Status::BadKnap {
+            kind: GraphKind::BadEnd,
+            line,
+        },
+        GraphFault::NoMemory => Status::NoMemory,
+    }
+}
+
 fn status_of(fault: RunFault) -> Status
     ensures { result ≡ status_for fault }
 {
@@ -84,6 +107,24 @@ fn take_graph<S: Source>(alloc: Global, source: &mut S) -> Result<Graph, Status>
     }
 }
 
+/// The knapsack that the source gives. Its text is let go.
+fn take_knap<S: Source>(alloc: Global, source: &mut S) -> Result<Knap, Status>
+    ensures knap { IfOk result (λ knap. (input : List ℕ)
+        × IsKnapText input knap
+        × ReadsAll input (change S.left S.faults source.old source.new)) }
+    ensures stops { IfErr result (GivesNoKnap
+        (change S.left S.faults source.old source.new)) }
+{
+    let input = match read_all(alloc, source) {
+        Ok(input) => input,
+        Err(stop) => return Err(read_status(stop)),
+    };
+    match read_knap(alloc, &input) {
+        Ok(knap) => Ok(knap),
+        Err(fault) => Err(knap_status(fault)),
+    }
+}
+
 /// What the order has to run, with what the source gives for it.
 fn prepare<S: Source>(alloc: Global, order: &Order, source: &mut S) -> Result<Task, Status>
     requires { OrderFits order.now }
@@ -101,6 +142,10 @@ fn prepare<S: Source>(alloc: Global, order: &Order, source: &mut S) -> Result<Ta
             Err(status) => Err(status),
         },
         Job::Trial { k } => Ok(Task::Trial { k }),
+        Job::Knap => match take_knap(alloc, source) {
+            Ok(knap) => Ok(Task::Knap { knap }),
+            Err(status) => Err(status),
+        },
     }
 }
 
@@ -192,9 +237,9 @@ fn refuse_words<E: Sink>(err: &mut E, fault: OrderFault) -> Status
     }
 }
 
-/// Does all that the program does: reads the words, the source where the job has a graph, runs the
-/// job, and writes its report. The first refusal ends it, and goes to `err` as one line. A job that
-/// runs on threads passes the gate once at each expansion; no other job passes it.
+/// Does all that the program does: reads the words, the source where the job is on what it gives,
+/// runs the job, and writes its report. The first refusal ends it, and goes to `err` as one line. A
+/// job that runs on threads passes the gate once at each expansion; no other job passes it.
 pub fn top<R: Threads + Wait + Sync, S: Source, K: Sink, E: Sink, G: Gate + Sync>(
     rt: &R,
     alloc: Global,

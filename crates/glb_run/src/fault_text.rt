@@ -73,6 +73,10 @@ pub(crate) fn fault_line(limit: u64, status: Status) -> Line
         Status::TooMany { .. } => push_around(&mut line, "more than ", limit, " items"),
         Status::WriteFault { .. } => line.push_str("write fault"),
         Status::NoMemory => line.push_str("out of memory"),
+        Status::BadKnap { kind, line: number } => {
+            push_around(&mut line, "line ", number, ": ");
+            line.push_str(graph_kind_name(kind));
+        }
     }
     line.push_str("\n");
     line

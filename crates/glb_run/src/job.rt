@@ -7,16 +7,19 @@ ghost use Rattle.glb_uts.specs.Binomial.{children as node_children};
 ghost use Rattle.glb_words.specs.declared.settings.Driver.TheVariants as driver;
 ghost use Rattle.glb_run.specs.Orders.{OrderFits};
 ghost use Rattle.glb_run.specs.Jobs.{IsQueensReport, IsUtsReport, IsDistReport, IsTrialReport};
-ghost use Rattle.glb_run.specs.Jobs.{tree_of, root_of};
+ghost use Rattle.glb_run.specs.Jobs.{IsKnapReport, tree_of, root_of};
 ghost use Rattle.glb_run.specs.inner.Stops.{StopsRun};
+ghost use Rattle.glb_run.specs.inner.Stops.{StopsSearch};
 ghost use Rattle.glb_run.specs.inner.Tasks.{TaskFits, IsTaskReport, StopsTask, StopsTrial};
 
 use super::drivers::run_calmly;
 use super::order::Order;
-use super::report_bytes::{dist_bytes, queens_bytes, trial_bytes, uts_bytes};
+use super::report_bytes::{dist_bytes, knap_bytes, queens_bytes, trial_bytes, uts_bytes};
 use super::trial::{TREE_B0, TREE_M, TREE_Q, trial_graph};
 use glb_bags::{ListBag, RangeBag};
+use glb_bound::best_one;
 use glb_graph::{Dist, Graph};
+use glb_knap::Knap;
 use glb_laws::Bag;
 use glb_queens::Queens;
 use glb_tree::RunFault;
@@ -30,6 +33,7 @@ pub(crate) enum Task {
     Uts { b0: u32, m: u32, q: u32, seed: u32 },
     Dist { graph: Graph },
     Trial { k: u32 },
+    Knap { knap: Knap },
 }
 
 fn queens_report<B: Bag<Queens>>(alloc: Global, n: u32, order: &Order) -> Result<Vec<u8>, RunFault>
@@ -107,6 +111,18 @@ fn trial_report(alloc: Global, k: u32, order: &Order) -> Result<Vec<u8>, RunFaul
     trial_bytes(alloc, k, &tree, &distances)
 }
 
+/// A search runs on one list, by any driver.
+pub(crate) fn knap_report(alloc: Global, knap: &Knap, order: &Order) -> Result<Vec<u8>, RunFault>
+    requires { OrderFits order.now }
+    ensures report { IfOk result (λ bytes. IsKnapReport knap.now bytes.items) }
+    ensures stops { IfErr result (StopsSearch knap.now order.now) }
+{
+    match best_one(alloc, knap, knap.root(), order.params.limit) {
+        Ok(best) => knap_bytes(alloc, knap, best.worth),
+        Err(fault) => Err(fault),
+    }
+}
+
 /// The report of the task, without threads.
 pub(crate) fn report_calm(alloc: Global, task: &Task, order: &Order) -> Result<Vec<u8>, RunFault>
     requires task { TaskFits task.now }
@@ -122,5 +138,6 @@ pub(crate) fn report_calm(alloc: Global, task: &Task, order: &Order) -> Result<V
         }
         Task::Dist { graph } => dist_report::<RangeBag<Dist>>(alloc, graph, order),
         Task::Trial { k } => trial_report(alloc, *k, order),
+        Task::Knap { knap } => knap_report(alloc, knap, order),
     }
 }

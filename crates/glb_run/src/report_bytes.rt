@@ -1,19 +1,22 @@
 //! The bytes of a job's report, out of what its run answers.
-ghost use Rattle.std.specs.Prelude.{◌≡◌, ◌++◌, [], IfOk, IfErr};
+ghost use Rattle.std.specs.Prelude.{◌≡◌, ◌++◌, [], length, IfOk, IfErr};
 ghost use Rattle.glb_laws.specs.Tallies.{no_tallies, join_tallies};
 ghost use Rattle.glb_graph.specs.Spots.{spot_children, spot_value};
 ghost use Rattle.glb_graph.specs.declared.dist.Spot.TheVariants.{Root};
 ghost use Rattle.glb_queens.specs.Boards.{boards_below, value_of as board_value};
 ghost use Rattle.glb_uts.specs.Binomial.{children as node_children, value_of as node_value};
-ghost use Rattle.glb_run.specs.Reports.{trial_line};
+ghost use Rattle.glb_run.specs.Reports.{trial_line, knap_text};
 ghost use Rattle.glb_run.specs.Jobs.{IsQueensReport, IsUtsReport, IsDistReport};
 ghost use Rattle.glb_run.specs.Jobs.{no_sum, add_sums, tree_of, root_of};
 ghost use Rattle.glb_run.specs.inner.Answers.{IsAnswer};
 
 use super::drivers::Answer;
 use super::order::Order;
-use super::report_text::{dist_lines, queens_lines, trial_line, uts_lines, with_counters};
+use super::report_text::{
+    dist_lines, knap_lines, queens_lines, trial_line, uts_lines, with_counters,
+};
 use glb_graph::Graph;
+use glb_knap::Knap;
 use glb_laws::{SatSum, Tallies};
 use glb_tree::RunFault;
 use std::alloc::Global;
@@ -103,4 +106,16 @@ pub(crate) fn trial_bytes(
         return Err(RunFault::NoMemory);
     }
     Ok(bytes)
+}
+
+/// The best worth of a knapsack.
+pub(crate) fn knap_bytes(alloc: Global, knap: &Knap, worth: u64) -> Result<Vec<u8>, RunFault>
+    ensures bytes { IfOk result (λ bytes.
+        bytes.items ≡ knap_text (length knap.now.lines) knap.now.capacity worth) }
+    ensures fault { IfErr result (λ e. e ≡ RunFault.NoMemory) }
+{
+    match knap_lines(alloc, knap.lines(), knap.capacity(), worth) {
+        Ok(lines) => Ok(lines.into_bytes()),
+        Err(_) => Err(RunFault::NoMemory),
+    }
 }

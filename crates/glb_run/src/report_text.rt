@@ -3,6 +3,7 @@ ghost use Rattle.std.specs.Prelude.{◌≡◌, ◌≤◌, ◌<◌, ◌^◌, ◌+
 ghost use Rattle.std.specs.Prelude.{IfOk, IfErr, string_bytes, codes, true, false, sum};
 ghost use Rattle.glb_stats.specs.Balances.{HasSmallUnits};
 ghost use Rattle.glb_run.specs.Reports.{line_text, queens_text, uts_text, dist_text, trial_line};
+ghost use Rattle.glb_run.specs.Reports.{knap_text};
 ghost use Rattle.glb_run.specs.Reports.{head_text, places_text, counters_text};
 
 use super::order::Order;
@@ -129,6 +130,21 @@ pub(crate) fn trial_line(alloc: Global, k: u32) -> Result<String, AllocError>
 {
     let mut out = String::new(alloc);
     write_line(&mut out, "trial", &[u64::from(k)])?;
+    Ok(out)
+}
+
+/// The lines of a knapsack with so many lines: its size, and the best worth.
+pub(crate) fn knap_lines(
+    alloc: Global,
+    lines: u32,
+    capacity: u64,
+    worth: u64,
+) -> Result<String, AllocError>
+    ensures { IfOk result (λ text. string_bytes text ≡ knap_text lines capacity worth) }
+{
+    let mut out = String::new(alloc);
+    write_line(&mut out, "knap", &[u64::from(lines), capacity])?;
+    write_line(&mut out, "best", &[worth])?;
     Ok(out)
 }
 

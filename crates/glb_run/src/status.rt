@@ -4,7 +4,7 @@ ghost use Rattle.glb_run.specs.Codes.{code_of};
 
 use glb_words::WordKind;
 
-/// What is wrong with graph text.
+/// What is wrong with the text of a graph or a knapsack.
 #[derive(Clone, Copy, Debug, PartialEq, Eq)]
 pub enum GraphKind {
     BadLine,
@@ -26,6 +26,7 @@ pub enum Status {
     /// So many bytes of the report were taken.
     WriteFault { taken: usize },
     NoMemory,
+    BadKnap { kind: GraphKind, line: u64 },
 }
 
 impl Status {
@@ -42,6 +43,7 @@ impl Status {
             Status::TooMany { .. } => 6,
             Status::WriteFault { .. } => 7,
             Status::NoMemory => 8,
+            Status::BadKnap { .. } => 9,
         }
     }
 }

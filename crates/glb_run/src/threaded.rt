@@ -14,7 +14,7 @@ ghost use Rattle.glb_run.specs.inner.Tasks.{TaskFits, IsTaskReport, StopsTask, S
 use super::drivers::run_in_threads;
 use super::gate::Gate;
 use super::gated::Gated;
-use super::job::{Task, report_calm};
+use super::job::{Task, knap_report, report_calm};
 use super::order::Order;
 use super::report_bytes::{dist_bytes, queens_bytes, trial_bytes, uts_bytes};
 use super::trial::{TREE_B0, TREE_M, TREE_Q, trial_graph};
@@ -157,6 +157,7 @@ fn report_in_threads<R: Threads + Wait + Sync, G: Gate + Sync>(
         }
         Task::Dist { graph } => dist_in_threads(rt, alloc, graph, order, gate),
         Task::Trial { k } => trial_in_threads(rt, alloc, *k, order, gate),
+        Task::Knap { knap } => knap_report(alloc, knap, order),
     }
 }
 

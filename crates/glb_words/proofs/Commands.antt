@@ -14,7 +14,7 @@ use Rattle.clap.specs.Takes.{takes, built_takes, level_passes, entered_passes, w
 use Rattle.clap.specs.Takes.{default_passes, is_valid, settle_passes}
 use Rattle.clap.proofs.OnLiterals.{clap_on_literals}
 use Rattle.glb_words.specs.Rules.{Text, JobRule, queens_rule, uts_rule, dist_rule, trial_rule}
-use Rattle.glb_words.specs.Rules.{job_rules}
+use Rattle.glb_words.specs.Rules.{knap_rule, job_rules}
 use Rattle.glb_words.specs.Words.{Given, given_value, read_from, start_of, rule_named, read_job}
 use Rattle.glb_words.specs.Words.{read_words, with_rule}
 use Rattle.glb_words.specs.declared.fault.WordFault.{WordFault}
@@ -116,6 +116,21 @@ trial_fits = record {
   valid = λ rows. refl;
   served = search (rules, none, more);
   numbered = search (rules, none);
+}
+
+-- the table of knapsacks
+pub knap_fits : Fits knap_rule
+unfolding clap_on_literals
+knap_fits = record {
+  simple = refl;
+  words = refl;
+  leaf = refl;
+  override = refl;
+  defaults = refl;
+  flags = refl;
+  valid = λ rows. refl;
+  served = search (rules, none, more);
+  numbered = tt;
 }
 
 -- the two consequences, for the words after the job's
@@ -234,7 +249,8 @@ pub record Told (rule : JobRule) (words : List Text) (given : Given) : Type 0 wh
 job_fits : (word : Text) (rule : JobRule) → rule_named word ≡ Some rule → Fits rule
 job_fits word rule h =
     (each_found Fits (λ (r : JobRule). bytes_eq r.name word) job_rules rule
-    (more _ _ queens_fits (more _ _ uts_fits (more _ _ dist_fits (more _ _ trial_fits none)))) h).0
+    (more _ _ queens_fits (more _ _ uts_fits (more _ _ dist_fits
+    (more _ _ trial_fits (more _ _ knap_fits none))))) h).0
 
 -- what was read of a job is what was given
 pub read_inner : (rule : JobRule) (r : Result Given WordFault) (out : JobRule) (given : Given)

@@ -78,6 +78,7 @@ same_job job_name.Queens v w same = search (rules, same)
 same_job job_name.Uts v w same = search (rules, same)
 same_job job_name.Dist v w same = refl
 same_job job_name.Trial v w same = search (rules, same)
+same_job job_name.Knap v w same = refl
 
 -- values with the same numbers, choices and flags give the same settings
 same_settings : (name : JobName) (v w : Text → Option Text) → SameNumbers (numbers_of name) v w

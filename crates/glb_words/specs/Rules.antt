@@ -87,6 +87,14 @@ run_flags = stats_rule ∷ spread_rule ∷ []
 abbrev pub run_options : List FieldRule
 run_options = run_numbers ++ run_choices ++ run_flags
 
+-- what runs a search, which does not run on threads
+abbrev pub search_driver_rule : FieldRule
+search_driver_rule = field_rule (codes "driver") (Choice (codes "one" ∷ codes "turns" ∷ []))
+
+-- the options of a job that is a search
+abbrev pub search_options : List FieldRule
+search_options = places_rule ∷ limit_rule ∷ search_driver_rule ∷ []
+
 -- how many queens
 abbrev pub queens_n_rule : FieldRule
 queens_n_rule = field_rule (codes "n") (Number 1 16 1)
@@ -117,6 +125,7 @@ numbers_of job_name.Queens = queens_n_rule ∷ []
 numbers_of job_name.Uts = uts_b0_rule ∷ uts_m_rule ∷ uts_q_rule ∷ uts_seed_rule ∷ []
 numbers_of job_name.Dist = []
 numbers_of job_name.Trial = trial_k_rule ∷ []
+numbers_of job_name.Knap = []
 
 -- placements of n queens
 abbrev pub queens_rule : JobRule
@@ -154,6 +163,15 @@ trial_rule = record {
   options = run_options;
 }
 
+-- the best choice for a knapsack, which the source gives
+abbrev pub knap_rule : JobRule
+knap_rule = record {
+  job = job_name.Knap;
+  name = codes "knap";
+  numbers = numbers_of job_name.Knap;
+  options = search_options;
+}
+
 -- the jobs that are built
 abbrev pub job_rules : List JobRule
-job_rules = queens_rule ∷ uts_rule ∷ dist_rule ∷ trial_rule ∷ []
+job_rules = queens_rule ∷ uts_rule ∷ dist_rule ∷ trial_rule ∷ knap_rule ∷ []

@@ -69,6 +69,7 @@ job_by job_name.Uts value =
     (number_by uts_q_rule value) (number_by uts_seed_rule value)
 job_by job_name.Dist value = job.Dist
 job_by job_name.Trial value = job.Trial (number_by trial_k_rule value)
+job_by job_name.Knap value = job.Knap
 
 -- the settings, out of the value of each name
 abbrev pub settings_by : JobName → (Text → Option Text) → Settings
@@ -110,6 +111,7 @@ JobFits (job.Uts b0 m q seed) =
     IsIn uts_b0_rule b0 × IsIn uts_m_rule m × IsIn uts_q_rule q × IsIn uts_seed_rule seed
 JobFits job.Dist = Unit {0}
 JobFits (job.Trial k) = IsIn trial_k_rule k
+JobFits job.Knap = Unit {0}
 
 -- all numbers of the settings are in the ranges of the table
 pub record SettingsFit (s : Settings) : Type 0 where

@@ -8,6 +8,7 @@ pub(crate) enum JobName {
     Uts,
     Dist,
     Trial,
+    Knap,
 }
 
 /// What the text of a value may be: a number from the first to the second, where the third stands
@@ -158,5 +159,23 @@ const TRIAL: JobForm = JobForm {
     options: &RUN_OPTIONS,
 };
 
+/// A search does not run on threads.
+const SEARCH_DRIVERS: [&'static str; 2] = ["one", "turns"];
+
+const SEARCH_DRIVER: Field = Field {
+    name: "driver",
+    form: Form::Choice(&SEARCH_DRIVERS),
+};
+
+/// The options of a job that is a search.
+const SEARCH_OPTIONS: [Field; 3] = [PLACES, LIMIT, SEARCH_DRIVER];
+
+const KNAP: JobForm = JobForm {
+    job: JobName::Knap,
+    name: "knap",
+    numbers: &[],
+    options: &SEARCH_OPTIONS,
+};
+
 /// The jobs that are built.
-pub(crate) const JOBS: [JobForm; 4] = [QUEENS, UTS, DIST, TRIAL];
+pub(crate) const JOBS: [JobForm; 5] = [QUEENS, UTS, DIST, TRIAL, KNAP];

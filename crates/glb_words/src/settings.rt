@@ -34,6 +34,8 @@ pub enum Job {
     Dist,
     /// A binomial tree and the distances in a graph, both made from `k`.
     Trial { k: u32 },
+    /// The best choice for the knapsack that the source gives.
+    Knap,
 }
 
 /// What runs a job.
@@ -133,6 +135,7 @@ fn job_of(job: JobName, matches: &ArgMatches<'_>) -> Job
         JobName::Trial => Job::Trial {
             k: small_number_of(matches, TRIAL_K),
         },
+        JobName::Knap => Job::Knap,
     }
 }
 

@@ -117,9 +117,31 @@ fn the_fabric_is_of_cells_unless_inboxes_are_named(rt: HostRuntime) -> Result<()
 }
 
 #[test]
+fn a_search_has_its_own_options(rt: HostRuntime) -> Result<(), Fail> {
+    let alloc = rt.alloc();
+    let texts = ["knap", "--driver", "turns", "--places=2", "--limit", "9"];
+    let words = words_of(alloc, &texts)?;
+    let settings = Settings {
+        job: Job::Knap,
+        places: 2,
+        batch: 64,
+        tries: 1,
+        base: 2,
+        seed: 0,
+        limit: 9,
+        driver: Driver::Turns,
+        fabric: FabricKind::Cells,
+        stats: false,
+        spread: false,
+    };
+    assert_eq!(rt; read_settings(alloc, words.as_slice(), true), Ok(settings));
+    Ok(())
+}
+
+#[test]
 fn the_first_fault_is_told(rt: HostRuntime) -> Result<(), Fail> {
     let alloc = rt.alloc();
-    let cases: [(&[&str], WordKind, u32); 47] = [
+    let cases: [(&[&str], WordKind, u32); 51] = [
         (&[], WordKind::Missing, 0),
         (&["queen", "8"], WordKind::UnknownJob, 0),
         (&["", "8"], WordKind::UnknownJob, 0),
@@ -198,7 +220,11 @@ fn the_first_fault_is_told(rt: HostRuntime) -> Result<(), Fail> {
         (&["trial", "7", "8"], WordKind::UnknownOption, 2),
         (&["uts", "3", "8", "0"], WordKind::Missing, 4),
         (&["dist", "1"], WordKind::UnknownOption, 1),
-        (&["knap"], WordKind::UnknownJob, 0),
+        (&["knap", "3"], WordKind::UnknownOption, 1),
+        (&["knap", "--batch=1"], WordKind::UnknownOption, 1),
+        (&["knap", "--stats"], WordKind::UnknownOption, 1),
+        (&["knap", "--driver", "threads"], WordKind::BadChoice, 2),
+        (&["trace", "8"], WordKind::UnknownJob, 0),
     ];
     for (texts, kind, word) in cases {
         let words = words_of(alloc, texts)?;

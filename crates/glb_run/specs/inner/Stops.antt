@@ -1,11 +1,14 @@
 -- How the stages of a call end early: reading, the run of trees, the writing of a report.
-use Rattle.std.specs.Prelude.{◌≡◌, ◌⊎◌, ℕ, List, Result, Ok, Err}
+use Rattle.std.specs.Prelude.{◌≡◌, ◌⊎◌, ℕ, List, [], ◌∷◌, Result, Ok, Err}
 use Rattle.glb_words.specs.Rules.{Text}
 use Rattle.glb_words.specs.declared.fault.OrderFault.{OrderFault}
 use Rattle.glb_words.specs.declared.fault.OrderFault.TheVariants as order_fault
+use Rattle.glb_tree.specs.Runs.{HasCause}
 use Rattle.glb_tree.specs.declared.run.RunFault.{RunFault}
 use Rattle.glb_tree.specs.declared.run.RunFault.TheVariants as run_fault
 use Rattle.glb_graph.specs.Reading.{HasTextFault}
+use Rattle.glb_knap.specs.KnapText.{HasTextFault as HasKnapFault}
+use Rattle.glb_knap.specs.Packs.{Problem, packs_below, empty_pack}
 use Rattle.glb_graph.specs.declared.text.GraphFault.{GraphFault}
 use Rattle.glb_graph.specs.declared.text.GraphFault.TheVariants as graph_fault
 use Rattle.glb_run.specs.declared.order.Order.{Order}
@@ -28,6 +31,11 @@ StopsReading stop.NoMemory source = (input : List ℕ) × Reads input source
 abbrev pub StopsRun : {X : Type 0} → (X → List X) → X → Order → RunFault → Type 0
 StopsRun children root order (run_fault.TooMany items) = IsTooLarge children root order items
 StopsRun children root order run_fault.NoMemory = Unit {0}
+
+-- the search through a knapsack's tree ended early, in the same ways
+abbrev pub StopsSearch : Problem → Order → RunFault → Type 0
+StopsSearch problem order fault =
+    HasCause (packs_below problem) (empty_pack ∷ []) order.params.limit fault
 
 -- the status of a run that ended early
 abbrev pub status_of : RunFault → Status
@@ -58,6 +66,13 @@ graph_status (graph_fault.TooLarge line) = status.BadGraph graph_kind.TooLarge l
 graph_status (graph_fault.BadEnd line) = status.BadGraph graph_kind.BadEnd line
 graph_status graph_fault.NoMemory = status.NoMemory
 
+-- the status of an input that gave no knapsack
+abbrev pub knap_status : GraphFault → Status
+knap_status (graph_fault.BadLine line) = status.BadKnap graph_kind.BadLine line
+knap_status (graph_fault.TooLarge line) = status.BadKnap graph_kind.TooLarge line
+knap_status (graph_fault.BadEnd line) = status.BadKnap graph_kind.BadEnd line
+knap_status graph_fault.NoMemory = status.NoMemory
+
 -- the status of a source that was not read to its end
 abbrev pub read_status : ReadStop → Status
 read_status stop.Fault = status.ReadFault
@@ -70,3 +85,10 @@ GivesNoGraph source s =
     ((stop : ReadStop) × StopsReading stop source × (s ≡ read_status stop))
     ⊎ ((input : List ℕ) × (fault : GraphFault) × ReadsAll input source × HasTextFault input fault
     × (s ≡ graph_status fault))
+
+-- the source gave no knapsack, in the same ways
+abbrev pub GivesNoKnap : {S : Type 0} → Change S → Status → Type 0
+GivesNoKnap source s =
+    ((stop : ReadStop) × StopsReading stop source × (s ≡ read_status stop))
+    ⊎ ((input : List ℕ) × (fault : GraphFault) × ReadsAll input source × HasKnapFault input fault
+    × (s ≡ knap_status fault))

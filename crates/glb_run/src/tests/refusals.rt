@@ -6,7 +6,7 @@ use std::process::Abort;
 use std::test::Fail;
 
 /// Words with a fault of a kind, the number of the faulty word, and the line.
-const WORDS: [(&str, WordKind, u32, &str); 12] = [
+const WORDS: [(&str, WordKind, u32, &str); 13] = [
     (
         "queen 8",
         WordKind::UnknownJob,
@@ -74,6 +74,12 @@ const WORDS: [(&str, WordKind, u32, &str); 12] = [
         1,
         "glb: word 1: out of range\n",
     ),
+    (
+        "knap --driver threads",
+        WordKind::BadChoice,
+        2,
+        "glb: word 2: bad choice\n",
+    ),
 ];
 
 /// Graph text with a fault of a kind, its line, and the line that tells of it.
@@ -99,6 +105,19 @@ const GRAPHS: [(&str, GraphKind, u64, &str); 6] = [
         1,
         "glb: line 1: too large\n",
     ),
+];
+
+/// Knapsack text with a fault of a kind, its line, and the line that tells of it.
+const KNAPS: [(&str, GraphKind, u64, &str); 4] = [
+    (
+        "1 1\n0 5\n",
+        GraphKind::BadLine,
+        2,
+        "glb: line 2: bad line\n",
+    ),
+    ("65 0\n", GraphKind::TooLarge, 1, "glb: line 1: too large\n"),
+    ("2 1\n2 5\n", GraphKind::BadEnd, 3, "glb: line 3: bad end\n"),
+    ("", GraphKind::BadEnd, 1, "glb: line 1: bad end\n"),
 ];
 
 /// Commands whose trees have more nodes than the limit, how many were expanded, and the line.
@@ -144,6 +163,23 @@ fn faults_of_graph_text_are_told(rt: HostRuntime) -> Result<(), Fail> {
         is_refused(&rt, rt.alloc(), ("dist", text), status, told)?;
     }
     Ok(())
+}
+
+#[test]
+fn faults_of_knapsack_text_are_told(rt: HostRuntime) -> Result<(), Fail> {
+    for (text, kind, line, told) in KNAPS {
+        let status = Status::BadKnap { kind, line };
+        is_refused(&rt, rt.alloc(), ("knap", text), status, told)?;
+        assert_eq!(rt; status.code(), 9);
+    }
+    Ok(())
+}
+
+#[test]
+fn a_search_above_the_limit_is_told(rt: HostRuntime) -> Result<(), Fail> {
+    let status = Status::TooMany { items: 2 };
+    let command = ("knap --limit 1", "3 4\n3 3\n2 2\n2 2\n");
+    is_refused(&rt, rt.alloc(), command, status, "glb: more than 1 items\n")
 }
 
 #[test]

@@ -48,6 +48,12 @@ const GRAPHS: [(&str, &str); 5] = [
     ),
 ];
 
+const KNAPS: [(&str, &str); 3] = [
+    ("3 4\n3 3\n2 2\n2 2\n", "knap 3 4\nbest 4\n"),
+    ("2 1\n2 5\n3 6\n", "knap 2 1\nbest 0\n"),
+    ("0 0\n", "knap 0 0\nbest 0\n"),
+];
+
 #[test]
 fn reports_are_those_of_the_whole_trees(rt: HostRuntime) -> Result<(), Fail> {
     for (line, report) in QUEENS {
@@ -71,6 +77,19 @@ fn reports_of_graphs_tell_their_distances(rt: HostRuntime) -> Result<(), Fail> {
         assert_eq!(rt; left.status, Status::Done);
         assert_eq!(rt; left.out.bytes(), report.as_bytes());
         assert!(rt; left.err.bytes().is_empty());
+    }
+    Ok(())
+}
+
+#[test]
+fn reports_of_knapsacks_tell_their_best(rt: HostRuntime) -> Result<(), Fail> {
+    for line in ["knap", "knap --driver turns --places=3 --limit 100"] {
+        for (text, report) in KNAPS {
+            let left = run_on(&rt, rt.alloc(), line, text)?;
+            assert_eq!(rt; left.status, Status::Done);
+            assert_eq!(rt; left.out.bytes(), report.as_bytes());
+            assert!(rt; left.err.bytes().is_empty());
+        }
     }
     Ok(())
 }
