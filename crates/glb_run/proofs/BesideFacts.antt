@@ -1,9 +1,9 @@
 -- Places of a list that take turns one after the other.
 use Rattle.std.specs.Prelude.{All, Bool}
-use Rattle.std.proofs.Common.{◌≡◌, ◌≢◌, ◌∙◌, ◌⊎◌, ℕ, ◌+◌, ◌<◌, List, get_or, length, set}
+use Rattle.std.proofs.Common.{◌≡◌, ◌∙◌, ◌⊎◌, ℕ, ◌+◌, ◌<◌, List, get_or, length, set}
 use Rattle.std.proofs.Common.{ap, arith, inl, inr, sym, subst}
 use Rattle.std.proofs.lemmas.Bool.{cases_eq}
-use Rattle.std.proofs.lemmas.List.{get_or-set_same, get_or-set_other, length-set}
+use Rattle.std.proofs.lemmas.List.{get_or-set_same, get_or-set_other}
 use Rattle.glb_place.specs.Calls.{SameObject}
 use Rattle.glb_run.proofs.PairFacts.{same_then}
 

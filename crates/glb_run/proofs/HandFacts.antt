@@ -1,6 +1,6 @@
 -- What a place of two that is played by hand may do, and what it keeps.
 use Rattle.std.specs.Prelude.{Option, Some, None, IfSome, is_some, min, ◌^◌, nat_lt, true, false, cond, ◌&&◌, not}
-use Rattle.std.proofs.Common.{◌≡◌, ◌≢◌, ℕ, zero, suc, ◌+◌, ◌-◌, ◌<◌, ◌⊎◌, inl, inr, Bool, List, [], ◌∷◌, ◌++◌, length, length-append, refl, sym, ap, ◌∙◌, subst, arith}
+use Rattle.std.proofs.Common.{◌≡◌, ◌≢◌, ℕ, zero, suc, ◌-◌, ◌<◌, ◌⊎◌, inl, inr, Bool, List, [], ◌∷◌, ◌++◌, length, length-append, refl, sym, ap, ◌∙◌, subst, arith}
 use Rattle.std.specs.List.Sorted.{IsPermutation}
 use Rattle.std.proofs.lemmas.List.Sorted.{IsPermutation-refl, IsPermutation-sym, IsPermutation-trans, IsPermutation-append_right, IsPermutation-append_comm, length_permutation}
 use Rattle.std.proofs.lemmas.Bool.Decides.{nat_tests}
@@ -9,7 +9,7 @@ use Rattle.glb_laws.proofs.Expansions.{moves_before}
 use Rattle.glb_laws.proofs.Cancelling.{cancels}
 use Rattle.glb_cube.specs.Lines.{Cube, IsDimension, cube_of}
 use Rattle.glb_cube.specs.Digits.{targets, first_below}
-use Rattle.glb_rules.specs.World.{IsArmed, Asked, Idle, Loot, Refused, has_edge, has_line, mark_at, put_mark, state_of}
+use Rattle.glb_rules.specs.World.{IsArmed, has_edge, has_line, mark_at, put_mark, state_of}
 use Rattle.glb_rules.specs.Setups.{tries_of}
 use Rattle.glb_rules.specs.Events.{name_of}
 use Rattle.glb_rules.specs.Effects.{credit_after_take, mark_after_look, phase_after_batch}

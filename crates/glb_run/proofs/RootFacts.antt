@@ -6,7 +6,7 @@ use Rattle.std.specs.Prelude.{All, Some, nat_lt, not, slice_get, IsPermutation}
 use Rattle.std.specs.List.{range_with_len}
 use Rattle.std.proofs.lemmas.Bool.{cases_lt, lt-ltb, ne_eqb}
 use Rattle.std.proofs.lemmas.Nat.{mod_below}
-use Rattle.std.proofs.lemmas.List.{length-append, length-map, get_or-map, get_or_past}
+use Rattle.std.proofs.lemmas.List.{length-append, get_or-map, get_or_past}
 use Rattle.std.proofs.lemmas.List.FromFn.{length-map-range_with_len, get_or-map-range_with_len}
 use Rattle.std.proofs.lemmas.List.Sorted.{length_permutation}
 use Rattle.std.proofs.lemmas.Option.{same_Some, slice_get-get_or, slice_get_within}

@@ -8,8 +8,7 @@ ghost use Rattle.glb_words.specs.declared.settings.Driver.TheVariants as driver;
 ghost use Rattle.glb_run.specs.Orders.{OrderFits};
 ghost use Rattle.glb_run.specs.Jobs.{IsQueensReport, IsUtsReport, IsDistReport, IsTrialReport};
 ghost use Rattle.glb_run.specs.Jobs.{IsKnapReport, tree_of, root_of};
-ghost use Rattle.glb_run.specs.inner.Stops.{StopsRun};
-ghost use Rattle.glb_run.specs.inner.Stops.{StopsSearch};
+ghost use Rattle.glb_run.specs.inner.Stops.{StopsRun, StopsSearch};
 ghost use Rattle.glb_run.specs.inner.Tasks.{TaskFits, IsTaskReport, StopsTask, StopsTrial};
 
 use super::drivers::run_calmly;
@@ -111,8 +110,8 @@ fn trial_report(alloc: Global, k: u32, order: &Order) -> Result<Vec<u8>, RunFaul
     trial_bytes(alloc, k, &tree, &distances)
 }
 
-/// A search runs on one list, by any driver.
-pub(crate) fn knap_report(alloc: Global, knap: &Knap, order: &Order) -> Result<Vec<u8>, RunFault>
+/// Without threads a search runs on one list.
+fn knap_report(alloc: Global, knap: &Knap, order: &Order) -> Result<Vec<u8>, RunFault>
     requires { OrderFits order.now }
     ensures report { IfOk result (λ bytes. IsKnapReport knap.now bytes.items) }
     ensures stops { IfErr result (StopsSearch knap.now order.now) }

@@ -7,19 +7,21 @@ ghost use Rattle.glb_uts.specs.Binomial.{children as node_children};
 ghost use Rattle.glb_words.specs.declared.settings.Driver.TheVariants as driver;
 ghost use Rattle.glb_run.specs.Orders.{OrderFits};
 ghost use Rattle.glb_run.specs.Jobs.{IsQueensReport, IsUtsReport, IsDistReport, IsTrialReport};
-ghost use Rattle.glb_run.specs.Jobs.{tree_of, root_of};
-ghost use Rattle.glb_run.specs.inner.Stops.{StopsRun};
+ghost use Rattle.glb_run.specs.Jobs.{IsKnapReport, tree_of, root_of};
+ghost use Rattle.glb_run.specs.inner.Stops.{StopsRun, StopsSearch};
 ghost use Rattle.glb_run.specs.inner.Tasks.{TaskFits, IsTaskReport, StopsTask, StopsTrial};
 
 use super::drivers::run_in_threads;
 use super::gate::Gate;
 use super::gated::Gated;
-use super::job::{Task, knap_report, report_calm};
+use super::job::{Task, report_calm};
 use super::order::Order;
-use super::report_bytes::{dist_bytes, queens_bytes, trial_bytes, uts_bytes};
+use super::report_bytes::{dist_bytes, knap_bytes, queens_bytes, trial_bytes, uts_bytes};
 use super::trial::{TREE_B0, TREE_M, TREE_Q, trial_graph};
 use glb_bags::{ListBag, RangeBag};
+use glb_bound::run_best;
 use glb_graph::{Dist, Graph};
+use glb_knap::Knap;
 use glb_queens::Queens;
 use glb_tree::RunFault;
 use glb_uts::Uts;
@@ -136,6 +138,24 @@ fn trial_in_threads<R: Threads + Wait + Sync, G: Gate + Sync>(
     trial_bytes(alloc, k, &tree, &distances)
 }
 
+/// The places of a search share its best, and pass no gate.
+fn knap_in_threads<R: Threads + Sync>(
+    rt: &R,
+    alloc: Global,
+    knap: &Knap,
+    order: &Order,
+) -> Result<Vec<u8>, RunFault>
+    requires { OrderFits order.now }
+    ensures report { IfOk result (λ bytes. IsKnapReport knap.now bytes.items) }
+    ensures stops { IfErr result (StopsSearch knap.now order.now) }
+{
+    let params = &order.params;
+    match run_best(rt, alloc, knap, knap.root(), params.places, params.limit) {
+        Ok(best) => knap_bytes(alloc, knap, best.worth),
+        Err(fault) => Err(fault),
+    }
+}
+
 /// The report of the task, whose trees are run on threads.
 fn report_in_threads<R: Threads + Wait + Sync, G: Gate + Sync>(
     rt: &R,
@@ -157,7 +177,7 @@ fn report_in_threads<R: Threads + Wait + Sync, G: Gate + Sync>(
         }
         Task::Dist { graph } => dist_in_threads(rt, alloc, graph, order, gate),
         Task::Trial { k } => trial_in_threads(rt, alloc, *k, order, gate),
-        Task::Knap { knap } => knap_report(alloc, knap, order),
+        Task::Knap { knap } => knap_in_threads(rt, alloc, knap, order),
     }
 }
 

@@ -87,13 +87,9 @@ run_flags = stats_rule ∷ spread_rule ∷ []
 abbrev pub run_options : List FieldRule
 run_options = run_numbers ++ run_choices ++ run_flags
 
--- what runs a search, which does not run on threads
-abbrev pub search_driver_rule : FieldRule
-search_driver_rule = field_rule (codes "driver") (Choice (codes "one" ∷ codes "turns" ∷ []))
-
 -- the options of a job that is a search
 abbrev pub search_options : List FieldRule
-search_options = places_rule ∷ limit_rule ∷ search_driver_rule ∷ []
+search_options = places_rule ∷ limit_rule ∷ driver_rule ∷ []
 
 -- how many queens
 abbrev pub queens_n_rule : FieldRule

@@ -159,16 +159,8 @@ const TRIAL: JobForm = JobForm {
     options: &RUN_OPTIONS,
 };
 
-/// A search does not run on threads.
-const SEARCH_DRIVERS: [&'static str; 2] = ["one", "turns"];
-
-const SEARCH_DRIVER: Field = Field {
-    name: "driver",
-    form: Form::Choice(&SEARCH_DRIVERS),
-};
-
 /// The options of a job that is a search.
-const SEARCH_OPTIONS: [Field; 3] = [PLACES, LIMIT, SEARCH_DRIVER];
+const SEARCH_OPTIONS: [Field; 3] = [PLACES, LIMIT, DRIVER];
 
 const KNAP: JobForm = JobForm {
     job: JobName::Knap,

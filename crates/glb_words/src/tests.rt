@@ -141,7 +141,7 @@ fn a_search_has_its_own_options(rt: HostRuntime) -> Result<(), Fail> {
 #[test]
 fn the_first_fault_is_told(rt: HostRuntime) -> Result<(), Fail> {
     let alloc = rt.alloc();
-    let cases: [(&[&str], WordKind, u32); 51] = [
+    let cases: [(&[&str], WordKind, u32); 50] = [
         (&[], WordKind::Missing, 0),
         (&["queen", "8"], WordKind::UnknownJob, 0),
         (&["", "8"], WordKind::UnknownJob, 0),
@@ -223,7 +223,6 @@ fn the_first_fault_is_told(rt: HostRuntime) -> Result<(), Fail> {
         (&["knap", "3"], WordKind::UnknownOption, 1),
         (&["knap", "--batch=1"], WordKind::UnknownOption, 1),
         (&["knap", "--stats"], WordKind::UnknownOption, 1),
-        (&["knap", "--driver", "threads"], WordKind::BadChoice, 2),
         (&["trace", "8"], WordKind::UnknownJob, 0),
     ];
     for (texts, kind, word) in cases {

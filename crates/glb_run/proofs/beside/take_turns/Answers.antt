@@ -1,4 +1,4 @@
-use Rattle.std.proofs.Common.{◌≡◌, ◌≢◌, ◌∙◌, ◌<◌, None, arith, get_or, length, sym}
+use Rattle.std.proofs.Common.{◌≢◌, ◌∙◌, ◌<◌, None, arith, get_or, length, sym}
 use Rattle.std.proofs.lemmas.List.{length-set}
 use Rattle.glb_place.proofs.Entries.{same_or}
 use Rattle.glb_run.proofs.BesideFacts.{ended_more, hold_more}

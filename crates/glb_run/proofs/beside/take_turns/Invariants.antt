@@ -1,4 +1,4 @@
-use Rattle.std.proofs.Common.{◌≡◌, ◌≢◌, ℕ, ◌<◌, None, length, get_or, true, drop}
+use Rattle.std.proofs.Common.{◌≡◌, ◌≢◌, ℕ, ◌<◌, None, length, get_or, true}
 use Rattle.glb_place.specs.Calls.{SameObject}
 use Rattle.glb_run.proofs.beside.take_turns.Given as goal
 

@@ -1,6 +1,5 @@
-use Rattle.std.proofs.Common.{◌∙◌, ◌∷◌, [], ap, sym, not, ◌==◌}
+use Rattle.std.proofs.Common.{◌∙◌, ◌∷◌, [], ap, not}
 use Rattle.std.specs.Prelude.{nat_lt}
-use Rattle.glb_run.specs.Runs.{lone_counters}
 use Rattle.glb_run.proofs.RootFacts.{not_zero}
 use Rattle.glb_run.proofs.TurnsFacts.{one_answer, stops_one}
 use Rattle.glb_run.proofs.drivers.run_in_one_bag.Goals as goal

@@ -1,4 +1,4 @@
-use Rattle.std.proofs.Common.{◌≡◌, ◌≢◌, ◌≤◌, ℕ, List, subst, sym}
+use Rattle.std.proofs.Common.{◌≡◌, ◌≢◌, ◌≤◌, subst, sym}
 use Rattle.glb_run.specs.ThreadedRuns.{IsCellsReport, IsThreadsReport}
 use Rattle.glb_run.proofs.CellFacts.{cells_report}
 use Rattle.glb_run.proofs.PlayedFacts.{ok_both}

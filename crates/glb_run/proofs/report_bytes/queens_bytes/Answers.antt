@@ -1,4 +1,4 @@
-use Rattle.std.proofs.Common.{◌≡◌, ◌++◌, ap, ◌∙◌, ℕ, List}
+use Rattle.std.proofs.Common.{◌++◌, ap, ◌∙◌, ℕ, List}
 use Rattle.std.proofs.lemmas.Result.{IfOk-weaker}
 use Rattle.glb_run.specs.Reports.{queens_text, counters_text}
 use Rattle.glb_run.proofs.report_bytes.queens_bytes.Goals as goal

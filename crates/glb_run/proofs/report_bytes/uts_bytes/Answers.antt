@@ -1,4 +1,4 @@
-use Rattle.std.proofs.Common.{◌≡◌, ◌++◌, ap, ◌∙◌, ℕ, List}
+use Rattle.std.proofs.Common.{◌++◌, ap, ◌∙◌, ℕ, List}
 use Rattle.std.proofs.lemmas.Result.{IfOk-weaker}
 use Rattle.glb_run.specs.Reports.{uts_text, counters_text}
 use Rattle.glb_run.proofs.report_bytes.uts_bytes.Goals as goal

@@ -1,4 +1,4 @@
-use Rattle.std.proofs.Common.{◌≡◌, ◌++◌, ℕ, [], length, map, get_or}
+use Rattle.std.proofs.Common.{◌≡◌, ◌++◌, [], length, map, get_or}
 use Rattle.glb_rules.specs.Joins.{join_to}
 use Rattle.glb_run.proofs.roots.all_of.Given as goal
 

@@ -1,4 +1,4 @@
-use Rattle.std.proofs.Common.{◌∙◌, ◌≤◌, false, [], map, ap, sym, arith}
+use Rattle.std.proofs.Common.{◌∙◌, false, map, ap, sym, arith}
 use Rattle.std.proofs.lemmas.List.{length-map}
 use Rattle.std.proofs.lemmas.Result.{IfOk-weaker}
 use Rattle.glb_run.specs.Roots.{at_first, roots_by}

@@ -1,4 +1,4 @@
-use Rattle.std.proofs.Common.{◌-◌, ◌∙◌, inr, refl}
+use Rattle.std.proofs.Common.{◌∙◌, inr, refl}
 use Rattle.glb_run.proofs.HandFacts.{below_two, has_few, none_of, works_here}
 use Rattle.glb_run.proofs.tests.hand.Hand.has_none_to_give.Goals as goal
 
