@@ -76,9 +76,9 @@ const WORDS: [(&str, WordKind, u32, &str); 13] = [
     ),
     (
         "knap --driver threads",
-        WordKind::BadChoice,
+        WordKind::Calm,
         2,
-        "glb: word 2: bad choice\n",
+        "glb: word 2: threads not allowed\n",
     ),
 ];
 

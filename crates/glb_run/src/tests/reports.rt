@@ -48,7 +48,7 @@ const GRAPHS: [(&str, &str); 5] = [
     ),
 ];
 
-const KNAPS: [(&str, &str); 3] = [
+pub(super) const KNAPS: [(&str, &str); 3] = [
     ("3 4\n3 3\n2 2\n2 2\n", "knap 3 4\nbest 4\n"),
     ("2 1\n2 5\n3 6\n", "knap 2 1\nbest 0\n"),
     ("0 0\n", "knap 0 0\nbest 0\n"),

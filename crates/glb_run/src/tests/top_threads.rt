@@ -1,4 +1,5 @@
 //! The program's own runs on threads.
+use super::reports::KNAPS;
 use super::{Left, sink, words_of};
 use crate::{Gate, NoGate, Status, top};
 use glb_io::CalmSource;
@@ -16,9 +17,20 @@ pub(super) fn run_at<R: Threads + Wait + Abort + Sync, G: Gate + Sync>(
     line: &str,
     gate: &G,
 ) -> Result<Left, Fail> {
+    run_over(rt, alloc, (line, ""), gate)
+}
+
+/// Runs the words of a line over the text beside it, with this gate.
+fn run_over<R: Threads + Wait + Abort + Sync, G: Gate + Sync>(
+    rt: &R,
+    alloc: Global,
+    command: (&str, &str),
+    gate: &G,
+) -> Result<Left, Fail> {
+    let (line, text) = command;
     let words = words_of(alloc, line)?;
     assert!(rt; words.len() < 100);
-    let mut source = CalmSource::new(Vec::new(alloc));
+    let mut source = CalmSource::new(Vec::from_slice(alloc, text.as_bytes())?);
     let mut out = sink(alloc, &[], 16384)?;
     let mut err = sink(alloc, &[], 64)?;
     let status = top(rt, alloc, &words, &mut source, &mut out, &mut err, gate);
@@ -96,6 +108,21 @@ fn threads_report_what_one_bag_reports(rt: HostRuntime) -> Result<(), Fail> {
         assert_eq!(rt; left.status, Status::Done, "{threads}");
         assert_eq!(rt; whole.status, Status::Done, "{one}");
         assert_eq!(rt; left.out.bytes(), whole.out.bytes(), "{threads}");
+    }
+    Ok(())
+}
+
+#[test]
+fn knapsacks_are_searched_on_threads(rt: HostRuntime) -> Result<(), Fail> {
+    for line in [
+        "knap --driver threads --places 1",
+        "knap --driver threads --places 8",
+    ] {
+        for (text, report) in KNAPS {
+            let left = run_over(&rt, rt.alloc(), (line, text), &NoGate)?;
+            assert_eq!(rt; left.status, Status::Done);
+            assert_eq!(rt; left.out.bytes(), report.as_bytes());
+        }
     }
     Ok(())
 }
