@@ -2,11 +2,12 @@
 ghost use Rattle.std.specs.Prelude.{◌≤◌};
 
 use super::{Pack, read_knap};
-use glb_bound::{Best, Search, best_one};
+use glb_bound::{Best, Search, best_one, run_best};
 use glb_graph::GraphFault;
 use glb_laws::{Greatest, NoMemory, Program};
 use glb_tree::RunFault;
 use std::alloc::Global;
+use std::thread::Threads;
 
 /// What the search of a text's knapsack answers, or the fault of the text.
 fn best_of(
@@ -19,6 +20,20 @@ fn best_of(
     let knap = read_knap(alloc, bytes)?;
     let root = knap.root();
     Ok(best_one(alloc, &knap, root, limit))
+}
+
+/// The same on threads.
+fn shared_best_of<R: Threads + Sync>(
+    rt: &R,
+    alloc: Global,
+    bytes: &[u8],
+    limit: u64,
+) -> Result<Result<Best<Pack>, RunFault>, GraphFault>
+    requires { (1 ≤ limit) × (limit ≤ 1000) }
+{
+    let knap = read_knap(alloc, bytes)?;
+    let root = knap.root();
+    Ok(run_best(rt, alloc, &knap, root, 2, limit))
 }
 
 #[test]
@@ -68,6 +83,42 @@ fn nothing_is_taken_where_nothing_fits(rt: HostRuntime) {
 fn a_search_that_passes_its_limit_says_so(rt: HostRuntime) {
     let found = best_of(rt.alloc(), b"3 4\n3 3\n2 2\n2 2\n", 1);
     assert_eq!(rt; found, Ok(Err(RunFault::TooMany { items: 2 })));
+}
+
+#[test]
+fn places_on_threads_search_the_same_packs(rt: HostRuntime) {
+    let alloc = rt.alloc();
+    let three = b"3 4\n3 3\n2 2\n2 2\n";
+    let pack = Pack {
+        next: 3,
+        weight: 4,
+        value: 4,
+        taken: 6,
+    };
+    assert_eq!(rt;
+        shared_best_of(&rt, alloc, three, 1000),
+        Ok(Ok(Best {
+            worth: 4,
+            item: pack
+        }))
+    );
+    assert_eq!(rt;
+        shared_best_of(&rt, alloc, three, 1),
+        Ok(Err(RunFault::TooMany { items: 2 }))
+    );
+    let empty = Pack {
+        next: 0,
+        weight: 0,
+        value: 0,
+        taken: 0,
+    };
+    assert_eq!(rt;
+        shared_best_of(&rt, alloc, b"0 0", 1),
+        Ok(Ok(Best {
+            worth: 0,
+            item: empty
+        }))
+    );
 }
 
 #[test]
