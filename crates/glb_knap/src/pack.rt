@@ -60,12 +60,10 @@ impl Pack {
             (out.new.items ≡ out.old.items ++ packs_by capacity (line.now ∷ []) self.now) }
         ensures unchanged { OnErr result (out.new.items ≡ out.old.items) }
     {
-        out.push(self.without())?;
+        out.reserve(2)?;
+        out.push_reserved(self.without());
         if self.weight <= capacity && line.weight <= capacity - self.weight {
-            if out.push(self.with(line)).is_err() {
-                out.pop();
-                return Err(NoMemory);
-            }
+            out.push_reserved(self.with(line));
         }
         Ok(())
     }
