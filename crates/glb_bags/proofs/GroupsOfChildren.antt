@@ -1,5 +1,5 @@
 -- Children that are asked for together, and made.
-use Rattle.std.proofs.Common.{◌≡◌, ℕ, zero, suc, ◌+◌, ◌<◌, ◌≤◌, ◌++◌, ◌∷◌, [], List, length, take, drop, get_or, Some, map, refl, sym, ap, ap₂, subst, ◌∙◌, arith, append-nil, length-append, slice_get, take-append-drop}
+use Rattle.std.proofs.Common.{◌≡◌, ℕ, zero, suc, ◌+◌, ◌-◌, ◌<◌, ◌≤◌, ◌++◌, ◌∷◌, [], List, length, take, drop, get_or, Some, map, refl, sym, ap, ap₂, subst, ◌∙◌, arith, append-nil, length-append, length-take, take-add, slice_get, take-append-drop}
 use Rattle.std.specs.List.{All, range_with_len}
 use Rattle.std.proofs.lemmas.List.Elements.{All-append}
 use Rattle.std.proofs.lemmas.List.{map-append, length-map, take-map, drop-map, drop_more, drop_at, take_all, take_at}
@@ -140,6 +140,35 @@ module _ {X : Type 0} (children : X → List X) where
             ∙ drop_at front (map (slice_get (children x)) ns) count size
             ∙ sym (read_in_a_row (children x) x 0 fan (omega arith))
             ∙ ap (map Some) (take_all fan (children x) (omega arith))),
+      )
+
+  -- the same where more stands behind what was made
+  pub group_within : (old asked : List (X × ℕ)) (fresh : List X) (x : X) (fan count n : ℕ)
+      → asked ≡ old ++ map (λ n. (x, n)) (range_with_len 0 fan)
+      → map Some (take n fresh) ≡ map (λ a. slice_get (children a.0) a.1) asked
+      → fan ≡ length (children x) → length old ≡ count → n ≡ length asked
+      → (map Some (take count fresh) ≡ map (λ a. slice_get (children a.0) a.1) old)
+      × (take (n - count) (drop count fresh) ≡ children x)
+  group_within old asked fresh x fan count n a given wide long all =
+      let some : List X = take n fresh in
+      let front : List X = take count fresh in
+      let back : List X = take (n - count) (drop count fresh) in
+      let made : length some ≡ length asked =
+      sym (length-map some Some) ∙ ap length given
+      ∙ length-map asked (λ b. slice_get (children b.0) b.1) in
+      let more : count + (n - count) ≡ n =
+      omega (
+        arith,
+        ap length a,
+        length-append old (map (λ n. let b : X × ℕ = (x, n) in b) (range_with_len 0 fan)),
+      ) in
+      let size : length front ≡ count =
+      omega (arith, length-take count fresh, length-take n fresh) in
+      let parts : some ≡ front ++ back =
+      ap (λ i. take i fresh) (sym more) ∙ take-add count (n - count) fresh in
+      let both = group_of_all old asked some x fan count a given wide long in (
+        ap (map Some) (sym (ap (take count) parts ∙ take_at front back count size)) ∙ both.0,
+        sym (ap (drop count) parts ∙ drop_at front back count size) ∙ both.1,
       )
 
   -- all children of an item may be asked for

@@ -98,6 +98,9 @@ where
     ensures fan { IfSome result (λ f. f.fan ≡ length (P.children program.now f.item)) }
     ensures most { IfSome result (λ f. (0 < f.fan) × (f.fan ≤ most)) }
 {
+    if most == 0 {
+        return None;
+    }
     let len = made.len();
     for look in 1..LOOKS.min(len) + 1 {
         let place = len - look;
@@ -127,26 +130,16 @@ fn ask_all<I: Copy>(parent: I, fan: u64, asked: &mut Vec<(I, u64)>)
     }
 }
 
-/// Makes what is asked for.
-fn make_asked<P: Ranged>(
-    program: &P,
-    filler: P::Item,
-    asked: &[(P::Item, u64)],
-    fresh: &mut Vec<P::Item>,
-) where
+/// Makes what is asked for over what stands in `fresh`.
+fn make_asked<P: Ranged>(program: &P, asked: &[(P::Item, u64)], fresh: &mut [P::Item])
+where
     P::Item: Copy,
-    requires none { vec_len fresh.old ≡ 0 }
-    requires room { length asked.now ≤ vec_capacity fresh.old }
+    requires room { length asked.now ≤ length fresh.old }
     requires numbers { All (λ a. a.1 < length (P.children program.now a.0)) asked.now }
-    ensures made { map Some fresh.new.items
+    ensures { map Some (take (length asked.now) fresh.new)
         ≡ map (λ a. slice_get (P.children program.now a.0) a.1) asked.now }
-    ensures len { vec_len fresh.new ≡ length asked.now }
 {
-    match fresh.resize(asked.len(), filler) {
-        Ok(()) => {}
-        Err(_) => unreachable!(),
-    }
-    program.make(asked, fresh.as_mut_slice());
+    program.make(asked, &mut fresh[..asked.len()]);
 }
 
 /// Opens an item, whose children are given.
@@ -189,25 +182,22 @@ fn put_made<I: Copy>(made: &mut Vec<Made<I>>, fresh: &[I])
 /// Makes what is asked for. Where that leaves lanes free, one more item is opened.
 fn make_and_open<P: Ranged>(
     program: &P,
-    filler: P::Item,
     made: &mut Vec<Made<P::Item>>,
     asked: &mut Vec<(P::Item, u64)>,
-    fresh: &mut Vec<P::Item>,
+    fresh: &mut [P::Item],
 ) where
     P::Item: Copy,
     requires all_open { AllOpen (P.children program.now) [] made.old.items }
     requires numbers { All (λ a. a.1 < length (P.children program.now a.0)) asked.old.items }
     requires group { vec_len asked.old ≤ 8 }
-    requires none { vec_len fresh.old ≡ 0 }
     requires asked_room { 8 ≤ vec_capacity asked.old }
-    requires fresh_room { 8 ≤ vec_capacity fresh.old }
+    requires fresh_room { 8 ≤ length fresh.old }
     requires made_room { vec_len made.old + 8 ≤ vec_capacity made.old }
     ensures all_open { AllOpen (P.children program.now) [] made.new.items }
     ensures same { all_closed (P.children program.now) [] made.new.items
         ≡ all_closed (P.children program.now) [] made.old.items }
-    ensures fresh { map Some (take (vec_len asked.old) fresh.new.items)
+    ensures fresh { map Some (take (vec_len asked.old) fresh.new)
         ≡ map (λ a. slice_get (P.children program.now a.0) a.1) asked.old.items }
-    ensures enough { vec_len asked.old ≤ vec_len fresh.new }
     ensures room { vec_len made.new + vec_len asked.old ≤ vec_capacity made.new }
 {
     let count = asked.len();
@@ -215,10 +205,10 @@ fn make_and_open<P: Ranged>(
     match find_closed(program, made, most) {
         Some(found) => {
             ask_all(found.item, found.fan, asked);
-            make_asked(program, filler, asked, fresh);
-            open_item(made, found.place, found.item, &fresh[count..]);
+            make_asked(program, asked, fresh);
+            open_item(made, found.place, found.item, &fresh[count..asked.len()]);
         }
-        None => make_asked(program, filler, asked, fresh),
+        None => make_asked(program, asked, fresh),
     }
 }
 
@@ -245,13 +235,14 @@ where
     let fresh = &mut group.fresh;
     asked.clear();
     asked.reserve(GROUP)?;
-    fresh.clear();
-    fresh.reserve(GROUP)?;
     made.reserve(GROUP)?;
-    let filler = parent_of(&entries[entries.len() - 1]);
+    if fresh.len() < GROUP {
+        let filler = parent_of(&entries[entries.len() - 1]);
+        fresh.resize(GROUP, filler)?;
+    }
     ask_last(entries, asked);
     let count = asked.len();
-    make_and_open(program, filler, made, asked, fresh);
+    make_and_open(program, made, asked, fresh.as_mut_slice());
     put_made(made, &fresh[..count]);
     Ok(())
 }

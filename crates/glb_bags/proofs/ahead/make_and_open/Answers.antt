@@ -1,4 +1,4 @@
-use Rattle.std.proofs.Common.{◌≡◌, ◌+◌, ◌-◌, ◌<◌, ◌≤◌, ◌++◌, ◌∷◌, [], ◌∙◌, ap, map, sym, subst, arith, length, take, drop, length-append, length-drop, length-take, slice_get, vec_len}
+use Rattle.std.proofs.Common.{◌≡◌, ◌+◌, ◌-◌, ◌<◌, ◌≤◌, ◌++◌, ◌∷◌, [], ◌∙◌, ap, map, refl, sym, subst, arith, length, take, drop, length-append, length-drop, length-take, slice_get, vec_len}
 use Rattle.std.specs.List.{range_with_len}
 use Rattle.std.proofs.lemmas.List.{length-map, take_all}
 use Rattle.std.proofs.lemmas.List.FromFn.{length-map-range_with_len}
@@ -6,7 +6,7 @@ use Rattle.std.proofs.lemmas.Option.{slice_get_within}
 use Rattle.std.specs.Prelude.{Some}
 use Rattle.glb_bags.specs.Ranges.{AllOpen, closed}
 use Rattle.glb_bags.specs.inner.Entries.{opened}
-use Rattle.glb_bags.proofs.GroupsOfChildren.{group_of_all, numbers_of_all}
+use Rattle.glb_bags.proofs.GroupsOfChildren.{group_within, numbers_of_all}
 use Rattle.glb_bags.proofs.OpenedItems.{Opens, opens, read_split}
 use Rattle.glb_bags.proofs.ahead.make_and_open.Goals as goal
 use Rattle.glb_bags.proofs.ahead.make_and_open.Goals.{After-make_asked, After-open_item}
@@ -40,15 +40,12 @@ open_item-requires-clause-place g c =
 
 pub open_item-requires-clause-room : goal.open_item-requires-clause-room
 open_item-requires-clause-room g c =
-    let fresh = c.deref-in-Some.result.now in
+    let fresh = c.make_asked.new.fresh in
     let count = c.len-count.result in
     omega (
       arith,
-      length-take (length fresh - count) (drop count fresh),
-      length-drop count fresh,
-      c.deref-in-Some.ensures.len,
-      c.make_asked.ensures.len,
-      c.deref.ensures.len,
+      length-take (c.len.result - count) (drop count fresh),
+      c.len.ensures,
       c.ask_all.ensures.len,
       c.in-Some.ensures.most,
       c.saturating_sub-most.ensures,
@@ -58,17 +55,18 @@ open_item-requires-clause-room g c =
 
 -- what is made of the two that asked
 made_here : (g : _) (c : After-open_item g)
-    → (map Some (take c.len-count.result c.make_asked.new.fresh.items)
+    → (map Some (take c.len-count.result c.make_asked.new.fresh)
     ≡ map (λ a. slice_get (g.P.Program.children c.args.program.now a.0) a.1)
     c.args.asked.now.items)
-    × (drop c.len-count.result c.make_asked.new.fresh.items
+    × (take (length c.deref.result.now - c.len-count.result)
+    (drop c.len-count.result c.make_asked.new.fresh)
     ≡ g.P.Program.children c.args.program.now c.in-Some.found.item)
 made_here g c =
-    group_of_all (g.P.Program.children c.args.program.now) c.args.asked.now.items
-    c.deref.result.now c.make_asked.new.fresh.items c.in-Some.found.item c.in-Some.found.fan
-    c.len-count.result
-    (c.deref.ensures.value ∙ c.ask_all.ensures.asked) c.make_asked.ensures.made
-    c.in-Some.ensures.fan (omega (arith, c.len-count.ensures, c.args.asked.now.ok.0))
+    group_within (g.P.Program.children c.args.program.now) c.args.asked.now.items
+    c.deref.result.now c.make_asked.new.fresh c.in-Some.found.item c.in-Some.found.fan
+    c.len-count.result (length c.deref.result.now)
+    (c.deref.ensures.value ∙ c.ask_all.ensures.asked) c.make_asked.ensures
+    c.in-Some.ensures.fan (omega (arith, c.len-count.ensures, c.args.asked.now.ok.0)) refl
 
 -- an item is opened
 opens_here : (g : _) (c : After-open_item g)
@@ -79,15 +77,15 @@ opens_here g c =
     let made = c.args.made.now.items in
     let place = c.in-Some.found.place in
     let item = c.in-Some.found.item in
-    let fresh = c.deref-in-Some.result.now in
-    let count = c.len-count.result in
+    let rest = drop c.len-count.result c.make_asked.new.fresh in
     let front = take place made in
     let back = drop (place + 1) made in
     let parts : made ≡ front ++ closed item ∷ back =
     read_split made place (closed item) c.in-Some.ensures.closed in
-    let all : take (length fresh - count) (drop count fresh) ≡ children item =
-    take_all (length fresh - count) (drop count fresh) (omega (arith, length-drop count fresh))
-    ∙ ap (drop count) c.deref-in-Some.ensures.value ∙ (made_here g c).1 in
+    let long : c.len.result ≡ length c.deref.result.now =
+    omega (arith, c.len.ensures, c.deref.ensures.len) in
+    let all : take (c.len.result - c.len-count.result) rest ≡ children item =
+    ap (λ n. take (n - c.len-count.result) rest) long ∙ (made_here g c).1 in
     let after : (front ++ map closed (children item)) ++ opened item ∷ back
     ≡ c.open_item.new.made.items =
     ap (λ l. (front ++ map closed l) ++ opened item ∷ back) (sym all)
@@ -105,24 +103,21 @@ returns-in-Some-clause-same g c = (opens_here g c).same
 pub returns-in-Some-clause-fresh : goal.returns-in-Some-clause-fresh
 returns-in-Some-clause-fresh g c =
     subst
-    (λ n. map Some (take n c.make_asked.new.fresh.items)
+    (λ n. map Some (take n c.make_asked.new.fresh)
     ≡ map (λ a. slice_get (g.P.Program.children c.args.program.now a.0) a.1)
     c.args.asked.now.items)
     c.len-count.ensures (made_here g c).0
 
 pub returns-in-Some-clause-room : goal.returns-in-Some-clause-room
 returns-in-Some-clause-room g c =
-    let fresh = c.deref-in-Some.result.now in
+    let fresh = c.make_asked.new.fresh in
     let count = c.len-count.result in
     omega (
       arith,
       c.open_item.ensures.len,
       c.open_item.ensures.capacity,
-      length-take (length fresh - count) (drop count fresh),
-      length-drop count fresh,
-      c.deref-in-Some.ensures.len,
-      c.make_asked.ensures.len,
-      c.deref.ensures.len,
+      length-take (c.len.result - count) (drop count fresh),
+      c.len.ensures,
       c.ask_all.ensures.len,
       c.in-Some.ensures.most,
       c.saturating_sub-most.ensures,

@@ -1,5 +1,6 @@
 use Rattle.std.proofs.Common.{◌≡◌, ◌-◌, ◌+◌, ◌++◌, ◌∙◌, [], ap, map, sym, subst, arith, take, drop, length, slice_get, vec_len}
 use Rattle.std.specs.Prelude.{Some}
+use Rattle.std.proofs.lemmas.List.{take_at}
 use Rattle.glb_bags.specs.Ranges.{all_closed, closed}
 use Rattle.glb_bags.proofs.GroupsOfChildren.{kept_with_group}
 use Rattle.glb_bags.proofs.OpenedItems.{held_more}
@@ -14,20 +15,23 @@ pub returns-clause-held : goal.returns-clause-held
 returns-clause-held g c =
     let children = g.P.Program.children c.args.program.now in
     let is = c.ask_last.ensures.asked children c.requires.held.kept.whole in
-    let group = take c.len-count.result c.make_and_open.new.fresh.items in
+    let group = take c.len-count.result c.make_and_open.new.fresh in
     let before = all_closed children [] c.args.made.now.items in
     held_more children c.args.entries.now.items c.ask_last.new.entries.items
     c.make_and_open.new.made.items c.put_made.new.made.items group
     c.make_and_open.ensures.all_open
     (kept_with_group children c.args.entries.now.items c.ask_last.new.entries.items
     c.ask_last.new.asked.items before group _ c.requires.held.kept is
-    (ap (λ n. map Some (take n c.make_and_open.new.fresh.items)) c.len-count.ensures
+    (ap (λ n. map Some (take n c.make_and_open.new.fresh)) c.len-count.ensures
     ∙ c.make_and_open.ensures.fresh)
     (ap (λ l. l ++ group)
-    (c.make_and_open.ensures.same ∙ ap (all_closed children []) c.reserve-3.ensures.items)))
+    (c.make_and_open.ensures.same ∙ ap (all_closed children []) c.reserve-2.ensures.items)))
     (c.put_made.ensures
     ∙ ap (λ l. c.make_and_open.new.made.items ++ map closed (take c.len-count.result l))
-    c.deref.ensures.value)
+    (c.deref.ensures.value
+    ∙ take_at c.make_and_open.new.fresh
+    (drop (length c.make_and_open.new.fresh) c.if-len-lt-GROUP.fresh.items) _
+    (omega (arith, c.as_mut_slice.ensures.len, c.if-len-lt-GROUP.fresh.ok.0))))
 
 pub returns-clause-count : goal.returns-clause-count
 returns-clause-count g c =
