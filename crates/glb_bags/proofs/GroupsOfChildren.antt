@@ -180,12 +180,12 @@ module _ {X : Type 0} (children : X → List X) where
       subst (All (λ b. b.1 < length (children b.0))) (sym a)
       (All-append (λ b. b.1 < length (children b.0)) old (map (λ n. (x, n)) (range_with_len 0 fan))
       before (λ k d lt.
-          let within : k < fan =
-          omega (arith, length-map-range_with_len {X = X × ℕ} (λ n. (x, n)) 0 fan) in
-          subst (λ b. b.1 < length (children b.0))
-          (sym (get_or-map-range_with_len {X = X × ℕ} (λ n. (x, n)) 0 fan k k d within
-          (omega arith)))
-          (omega arith)))
+      let within : k < fan =
+      omega (arith, length-map-range_with_len {X = X × ℕ} (λ n. (x, n)) 0 fan) in
+      subst (λ b. b.1 < length (children b.0))
+      (sym (get_or-map-range_with_len {X = X × ℕ} (λ n. (x, n)) 0 fan k k d within
+      (omega arith)))
+      (omega arith)))
 
 -- a group that was written behind what is made
 pub put_behind : {X : Type 0} (made resized into fill : List X) (place more n : ℕ)

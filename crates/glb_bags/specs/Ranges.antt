@@ -48,7 +48,7 @@ closed x = record { item = x; opened = false }
 abbrev pub IsOpenBehind : {X : Type 0} → (X → List X) → List X → Made X → Type 0
 IsOpenBehind children before m =
     m.opened ≡ true
-        → take (length before - length (children m.item)) before ++ children m.item ≡ before
+    → take (length before - length (children m.item)) before ++ children m.item ≡ before
 
 -- an item that is made takes the place of its children, where it is opened
 abbrev pub put_behind : {X : Type 0} → (X → List X) → List X → Made X → List X

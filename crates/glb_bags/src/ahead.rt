@@ -185,7 +185,8 @@ fn make_and_open<P: Ranged>(
     made: &mut Vec<Made<P::Item>>,
     asked: &mut Vec<(P::Item, u64)>,
     fresh: &mut [P::Item],
-) where
+)
+where
     P::Item: Copy,
     requires all_open { AllOpen (P.children program.now) [] made.old.items }
     requires numbers { All (λ a. a.1 < length (P.children program.now a.0)) asked.old.items }

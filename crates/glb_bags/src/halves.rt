@@ -127,7 +127,7 @@ where
             made: from,
             end,
         } if end.saturating_sub(first) >= 2 => {
-                    let middle = first + (end - first) / 2;
+            let middle = first + (end - first) / 2;
             let count = middle.saturating_sub(from) as usize;
             let rest_made = copy_from(made, count)?;
             let mut part = Vec::new(*entries.allocator());

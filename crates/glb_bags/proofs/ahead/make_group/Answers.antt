@@ -1,4 +1,4 @@
-use Rattle.std.proofs.Common.{◌≡◌, ◌-◌, ◌+◌, ◌++◌, ◌∙◌, [], ap, map, sym, subst, arith, take, drop, length, slice_get, vec_len}
+use Rattle.std.proofs.Common.{◌++◌, ◌∙◌, [], ap, map, arith, take, drop, length}
 use Rattle.std.specs.Prelude.{Some}
 use Rattle.std.proofs.lemmas.List.{take_at}
 use Rattle.glb_bags.specs.Ranges.{all_closed, closed}

@@ -1,4 +1,4 @@
-use Rattle.std.proofs.Common.{◌≡◌, ℕ, ◌-◌, ◌+◌, ◌<◌, ◌≤◌, ◌∙◌, List, [], ap, sym, arith, length, take, map, false, true, vec_len}
+use Rattle.std.proofs.Common.{◌≡◌, ℕ, ◌-◌, ◌≤◌, ◌∙◌, [], ap, sym, arith, length, take, map, false, true, vec_len}
 use Rattle.std.specs.Prelude.{vec_capacity}
 use Rattle.std.proofs.lemmas.List.{length-map}
 use Rattle.glb_bags.specs.Ranges.{all_closed, closed}
@@ -54,11 +54,11 @@ loop-each-preserved g c =
             omega (arith, ap vec_capacity w.copy-is, w.truncate.ensures.capacity, c.loop-each.invariant.capacity),
           )
       | else-opened w ↦ (
-          (λ e. cc),
-          (λ e. ap (λ v. v.items) w.copy-is),
-          omega (arith, ap vec_len w.copy-is, c.loop-each.invariant.len),
-          omega (arith, ap vec_capacity w.copy-is, c.loop-each.invariant.capacity),
-        )
+        (λ e. cc),
+        (λ e. ap (λ v. v.items) w.copy-is),
+        omega (arith, ap vec_len w.copy-is, c.loop-each.invariant.len),
+        omega (arith, ap vec_capacity w.copy-is, c.loop-each.invariant.capacity),
+      )
     ] in
     record {
       copy = copy_step children before m old cut c.push_reserved.new.self.items

@@ -1,4 +1,4 @@
-use Rattle.std.proofs.Common.{◌≡◌, ◌∙◌, ap, arith, drop, map, refl, take, length}
+use Rattle.std.proofs.Common.{◌≡◌, ◌∙◌, ap, arith, drop, refl, take, length}
 use Rattle.std.specs.List.{sum_by}
 use Rattle.std.proofs.lemmas.List.{take-map, drop-map, length-map}
 use Rattle.glb_bags.specs.Ranges.{IsKept, all_made, closed}

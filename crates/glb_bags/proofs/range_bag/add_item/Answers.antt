@@ -1,7 +1,7 @@
 use Rattle.std.proofs.Common.{◌++◌, ◌∷◌, [], ◌∙◌, ap, sym, subst, arith, length, length-append}
 use Rattle.std.specs.List.Sorted.{IsPermutation}
 use Rattle.std.proofs.lemmas.List.Sorted.{IsPermutation-sym, IsPermutation-to_front}
-use Rattle.glb_bags.specs.Ranges.{AllWhole, all_items, all_made, all_closed, closed}
+use Rattle.glb_bags.specs.Ranges.{AllWhole, all_items, all_made, closed}
 use Rattle.glb_bags.specs.declared.entry.Entry.TheVariants.{One}
 use Rattle.glb_bags.proofs.RangesOfChildren.{AllWhole-append, all_items-append, all_made-append}
 use Rattle.glb_bags.proofs.OpenedItems.{held_more}
