@@ -5,7 +5,7 @@ use Rattle.std.proofs.lemmas.Bool.{cases_lt}
 use Rattle.std.specs.List.{sum_by, slice_range}
 use Rattle.glb_bags.specs.declared.entry.Entry.{Entry}
 use Rattle.glb_bags.specs.declared.entry.Entry.TheVariants.{Range}
-use Rattle.glb_bags.specs.Ranges.{AllWhole, IsKept, closed, all_items, all_made}
+use Rattle.glb_bags.specs.Ranges.{AllWhole, IsKept, closed_item, all_items, all_made}
 use Rattle.glb_bags.specs.inner.Entries.{made_size, IsCut}
 use Rattle.glb_bags.specs.declared.entry.Made.{Made}
 use Rattle.glb_bags.proofs.OpenedItems.{held_closed}
@@ -23,7 +23,7 @@ pub record IsCutKept {X : Type 0} (children : X → List X) (old part : List (En
 module _ {X : Type 0} (children : X → List X) where
   -- where no item is opened, what is kept is held
   pub cut_held : (old part rest : List (Entry X)) (xs ys : List X) (ms ns : List (Made X))
-      → IsCutKept children old part xs rest ys → ms ≡ map closed xs → ns ≡ map closed ys
+      → IsCutKept children old part xs rest ys → ms ≡ map closed_item xs → ns ≡ map closed_item ys
       → IsCut children old part ms rest ns
   cut_held old part rest xs ys ms ns is m n = record {
     part_held = held_closed children part xs ms is.part_kept m;

@@ -1,5 +1,5 @@
 -- Children that are asked for together, and made.
-use Rattle.std.proofs.Common.{◌≡◌, ℕ, zero, suc, ◌+◌, ◌-◌, ◌<◌, ◌≤◌, ◌++◌, ◌∷◌, [], List, length, take, drop, get_or, Some, map, refl, sym, ap, ap₂, subst, ◌∙◌, arith, append-nil, length-append, length-take, take-add, slice_get, take-append-drop}
+use Rattle.std.proofs.Common.{◌≡◌, ℕ, zero, suc, ◌+◌, ◌-◌, ◌<◌, ◌≤◌, ◌++◌, ◌∷◌, [], List, length, take, drop, get_or, Some, map, refl, sym, ap, ap₂, subst, ◌∙◌, arith, append-nil, length-append, length-take, take-add, slice_get}
 use Rattle.std.specs.List.{All, range_with_len}
 use Rattle.std.proofs.lemmas.List.Elements.{All-append}
 use Rattle.std.proofs.lemmas.List.{map-append, length-map, take-map, drop-map, drop_more, drop_at, take_all, take_at}
@@ -186,16 +186,3 @@ module _ {X : Type 0} (children : X → List X) where
       (sym (get_or-map-range_with_len {X = X × ℕ} (λ n. (x, n)) 0 fan k k d within
       (omega arith)))
       (omega arith)))
-
--- a group that was written behind what is made
-pub put_behind : {X : Type 0} (made resized into fill : List X) (place more n : ℕ)
-    → length made ≡ place → resized ≡ take (place + more) made ++ fill
-    → take place into ≡ take place resized → length into ≡ n
-    → take n (into ++ drop (length into) resized) ≡ made ++ drop place into
-put_behind made resized into fill place more n long grown before size =
-    take_at into (drop (length into) resized) n size
-    ∙ sym (take-append-drop place into)
-    ∙ ap (λ l. l ++ drop place into)
-    (before ∙ ap (take place) grown
-    ∙ ap (λ l. take place (l ++ fill)) (take_all (place + more) made (omega arith))
-    ∙ take_at made fill place long)

@@ -5,8 +5,8 @@ use Rattle.std.proofs.lemmas.Option.{slice_get_within, get_or_from_slice_get}
 use Rattle.std.specs.List.{insert}
 use Rattle.glb_bags.specs.declared.entry.Made.{Made}
 use Rattle.glb_bags.specs.declared.entry.Entry.{Entry}
-use Rattle.glb_bags.specs.Ranges.{IsKept, IsHeld, IsOpenBehind, put_behind, all_closed, AllOpen, closed}
-use Rattle.glb_bags.specs.inner.Entries.{opened, IsReady, IsLastReady, all_children, without_last}
+use Rattle.glb_bags.specs.Ranges.{IsKept, IsHeld, IsOpenBehind, with_item, all_closed, AllOpen, closed_item}
+use Rattle.glb_bags.specs.inner.Entries.{opened_item, IsReady, IsLastReady, all_children, without_last}
 use Rattle.glb_bags.proofs.RangesOfChildren.{IsTaken, taken, last_of, last_known, last_split, some_made}
 
 module _ {X : Type 0} (children : X → List X) where
@@ -14,34 +14,34 @@ module _ {X : Type 0} (children : X → List X) where
       → all_closed children before (ms ++ ns)
       ≡ all_closed children (all_closed children before ms) ns
   all_closed-append before [] ns = refl
-  all_closed-append before (m ∷ ms) ns = all_closed-append (put_behind children before m) ms ns
+  all_closed-append before (m ∷ ms) ns = all_closed-append (with_item children before m) ms ns
 
   pub AllOpen-append : (before : List X) (ms ns : List (Made X)) → AllOpen children before ms
       → AllOpen children (all_closed children before ms) ns → AllOpen children before (ms ++ ns)
   AllOpen-append before [] ns g h = h
   AllOpen-append before (m ∷ ms) ns g h =
-      (g.0, AllOpen-append (put_behind children before m) ms ns g.1 h)
+      (g.0, AllOpen-append (with_item children before m) ms ns g.1 h)
 
   pub AllOpen-left : (before : List X) (ms ns : List (Made X)) → AllOpen children before (ms ++ ns)
       → AllOpen children before ms
   AllOpen-left before [] ns h = tt
   AllOpen-left before (m ∷ ms) ns h =
-      (h.0, AllOpen-left (put_behind children before m) ms ns h.1)
+      (h.0, AllOpen-left (with_item children before m) ms ns h.1)
 
   pub AllOpen-right : (before : List X) (ms ns : List (Made X))
       → AllOpen children before (ms ++ ns)
       → AllOpen children (all_closed children before ms) ns
   AllOpen-right before [] ns h = h
-  AllOpen-right before (m ∷ ms) ns h = AllOpen-right (put_behind children before m) ms ns h.1
+  AllOpen-right before (m ∷ ms) ns h = AllOpen-right (with_item children before m) ms ns h.1
 
   -- items that are not opened stand for themselves
   pub all_closed-closed : (before xs : List X)
-      → all_closed children before (map closed xs) ≡ before ++ xs
+      → all_closed children before (map closed_item xs) ≡ before ++ xs
   all_closed-closed before [] = sym (append-nil before)
   all_closed-closed before (x ∷ xs) =
       all_closed-closed (before ++ x ∷ []) xs ∙ append_assoc before (x ∷ []) xs
 
-  pub AllOpen-closed : (before xs : List X) → AllOpen children before (map closed xs)
+  pub AllOpen-closed : (before xs : List X) → AllOpen children before (map closed_item xs)
   AllOpen-closed before [] = tt
   AllOpen-closed before (x ∷ xs) = ((λ e. cc), AllOpen-closed (before ++ x ∷ []) xs)
 
@@ -52,7 +52,7 @@ module _ {X : Type 0} (children : X → List X) where
   -- what is put behind a longer list
   step_behind : (front before : List X) (m : Made X) → IsOpenBehind children before m
       → IsOpenBehind children (front ++ before) m
-      × (put_behind children (front ++ before) m ≡ front ++ put_behind children before m)
+      × (with_item children (front ++ before) m ≡ front ++ with_item children before m)
   step_behind front before m h = step m.opened h
     where
       ch : List X
@@ -61,7 +61,8 @@ module _ {X : Type 0} (children : X → List X) where
       step : (b : Bool) → (b ≡ true → take (length before - length ch) before ++ ch ≡ before)
           → (b ≡ true
           → take (length (front ++ before) - length ch) (front ++ before) ++ ch ≡ front ++ before)
-          × (cond b (take (length (front ++ before) - length ch) (front ++ before)) (front ++ before)
+          × (cond b (take (length (front ++ before) - length ch) (front ++ before))
+          (front ++ before)
           ++ m.item ∷ []
           ≡ front ++ (cond b (take (length before - length ch) before) before ++ m.item ∷ []))
       step false h = ((λ e. cc), append_assoc front before (m.item ∷ []))
@@ -83,7 +84,7 @@ module _ {X : Type 0} (children : X → List X) where
       let one = step_behind front before m h.0 in (
         one.0,
         subst (λ l. AllOpen children l ms) (sym one.1)
-            (AllOpen-behind front (put_behind children before m) ms h.1),
+            (AllOpen-behind front (with_item children before m) ms h.1),
       )
 
   pub all_closed-behind : (front before : List X) (ms : List (Made X))
@@ -93,7 +94,7 @@ module _ {X : Type 0} (children : X → List X) where
   all_closed-behind front before (m ∷ ms) h =
       let one = step_behind front before m h.0 in
       ap (λ l. all_closed children l ms) one.1
-      ∙ all_closed-behind front (put_behind children before m) ms h.1
+      ∙ all_closed-behind front (with_item children before m) ms h.1
 
   -- lists of made items joined
   pub joined_open : (ms ns : List (Made X)) → AllOpen children [] ms → AllOpen children [] ns
@@ -117,30 +118,30 @@ module _ {X : Type 0} (children : X → List X) where
     pub same : all_closed children [] new ≡ all_closed children [] old
 
   pub opens : (front back : List (Made X)) (x : X)
-      → AllOpen children [] (front ++ closed x ∷ back)
-      → Opens (front ++ closed x ∷ back)
-      ((front ++ map closed (children x)) ++ opened x ∷ back)
+      → AllOpen children [] (front ++ closed_item x ∷ back)
+      → Opens (front ++ closed_item x ∷ back)
+      ((front ++ map closed_item (children x)) ++ opened_item x ∷ back)
   opens front back x h =
       let ys : List X = all_closed children [] front in
       let ch : List X = children x in
-      let left = AllOpen-left [] front (closed x ∷ back) h in
-      let right = AllOpen-right [] front (closed x ∷ back) h in
+      let left = AllOpen-left [] front (closed_item x ∷ back) h in
+      let right = AllOpen-right [] front (closed_item x ∷ back) h in
       let cut : take (length (ys ++ ch) - length ch) (ys ++ ch) ≡ ys = cut_end ys ch in
-      let put : put_behind children (ys ++ ch) (opened x) ≡ ys ++ x ∷ [] =
+      let put : with_item children (ys ++ ch) (opened_item x) ≡ ys ++ x ∷ [] =
       ap (λ l. l ++ x ∷ []) cut in
-      let mid : all_closed children [] (front ++ map closed ch) ≡ ys ++ ch =
-      all_closed-append [] front (map closed ch) ∙ all_closed-closed ys ch in
+      let mid : all_closed children [] (front ++ map closed_item ch) ≡ ys ++ ch =
+      all_closed-append [] front (map closed_item ch) ∙ all_closed-closed ys ch in
       record {
-        all_open = AllOpen-append [] (front ++ map closed ch) (opened x ∷ back)
-            (AllOpen-append [] front (map closed ch) left (AllOpen-closed ys ch))
-            (subst (λ l. AllOpen children l (opened x ∷ back)) (sym mid) (
+        all_open = AllOpen-append [] (front ++ map closed_item ch) (opened_item x ∷ back)
+            (AllOpen-append [] front (map closed_item ch) left (AllOpen-closed ys ch))
+            (subst (λ l. AllOpen children l (opened_item x ∷ back)) (sym mid) (
               (λ e. ap (λ l. l ++ ch) cut),
               subst (λ l. AllOpen children l back) (sym put) right.1,
             ));
-        same = all_closed-append [] (front ++ map closed ch) (opened x ∷ back)
-            ∙ ap (λ l. all_closed children l (opened x ∷ back)) mid
+        same = all_closed-append [] (front ++ map closed_item ch) (opened_item x ∷ back)
+            ∙ ap (λ l. all_closed children l (opened_item x ∷ back)) mid
             ∙ ap (λ l. all_closed children l back) put
-            ∙ sym (all_closed-append [] front (closed x ∷ back));
+            ∙ sym (all_closed-append [] front (closed_item x ∷ back));
       }
 
   -- the last made item is taken off
@@ -156,7 +157,7 @@ module _ {X : Type 0} (children : X → List X) where
       let ys = all_closed children [] front in
       let both = subst (AllOpen children []) o h in
       let last = (AllOpen-right [] front (m ∷ []) both).0 in
-      let all : all_closed children [] made ≡ put_behind children ys m =
+      let all : all_closed children [] made ≡ with_item children ys m =
       ap (all_closed children []) o ∙ all_closed-append [] front (m ∷ []) in
       record {
         rest = cond m.opened (take (length ys - length (children m.item)) ys) ys;
@@ -174,7 +175,7 @@ module _ {X : Type 0} (children : X → List X) where
 module _ {X : Type 0} (children : X → List X) where
   -- what is made, and not opened, is held
   pub held_closed : (es : List (Entry X)) (xs : List X) (ms : List (Made X))
-      → IsKept children es xs → ms ≡ map closed xs → IsHeld children es ms
+      → IsKept children es xs → ms ≡ map closed_item xs → IsHeld children es ms
   held_closed es xs ms k e = record {
     kept = subst (IsKept children es)
         (sym (ap (all_closed children []) e ∙ all_closed-closed children [] xs)) k;
@@ -184,14 +185,14 @@ module _ {X : Type 0} (children : X → List X) where
   -- items that are made are put behind
   pub held_more : (old new : List (Entry X)) (ms after : List (Made X)) (xs : List X)
       → AllOpen children [] ms → IsKept children new (all_closed children [] ms ++ xs)
-      → after ≡ ms ++ map closed xs → IsHeld children new after
+      → after ≡ ms ++ map closed_item xs → IsHeld children new after
   held_more old new ms after xs h k e = record {
     kept = subst (IsKept children new)
-        (sym (ap (all_closed children []) e ∙ all_closed-append children [] ms (map closed xs)
+        (sym (ap (all_closed children []) e ∙ all_closed-append children [] ms (map closed_item xs)
         ∙ all_closed-closed children (all_closed children [] ms) xs))
         k;
     all_open = subst (AllOpen children []) (sym e)
-        (AllOpen-append children [] ms (map closed xs) h
+        (AllOpen-append children [] ms (map closed_item xs) h
         (AllOpen-closed children (all_closed children [] ms) xs));
   }
 
@@ -238,25 +239,25 @@ module _ {X : Type 0} (children : X → List X) where
 module _ {X : Type 0} (children : X → List X) where
   -- a list of items that are not opened, one item on
   pub copy_step : (before : List X) (m : Made X) (old cut new : List (Made X))
-      → old ≡ map closed before
+      → old ≡ map closed_item before
       → (m.opened ≡ true → cut ≡ take (length before - length (children m.item)) old)
       → (m.opened ≡ false → cut ≡ old)
-      → new ≡ cut ++ closed m.item ∷ []
-      → new ≡ map closed (put_behind children before m)
+      → new ≡ cut ++ closed_item m.item ∷ []
+      → new ≡ map closed_item (with_item children before m)
   copy_step before m old cut new o t f n = part m.opened t f
     where
       k : ℕ
       k = length before - length (children m.item)
 
       part : (b : Bool) → (b ≡ true → cut ≡ take k old) → (b ≡ false → cut ≡ old)
-          → new ≡ map closed (cond b (take k before) before ++ m.item ∷ [])
+          → new ≡ map closed_item (cond b (take k before) before ++ m.item ∷ [])
       part true t f =
-          n ∙ ap (λ l. l ++ closed m.item ∷ [])
-          (t refl ∙ ap (take k) o ∙ take-map closed k before)
-          ∙ sym (map-append closed (take k before) (m.item ∷ []))
+          n ∙ ap (λ l. l ++ closed_item m.item ∷ [])
+          (t refl ∙ ap (take k) o ∙ take-map closed_item k before)
+          ∙ sym (map-append closed_item (take k before) (m.item ∷ []))
       part false t f =
-          n ∙ ap (λ l. l ++ closed m.item ∷ []) (f refl ∙ o)
-          ∙ sym (map-append closed before (m.item ∷ []))
+          n ∙ ap (λ l. l ++ closed_item m.item ∷ []) (f refl ∙ o)
+          ∙ sym (map-append closed_item before (m.item ∷ []))
 
   -- the items before an opened one are as many as its children, at least
   pub enough_before : (before : List X) (m : Made X) → IsOpenBehind children before m
@@ -269,11 +270,11 @@ module _ {X : Type 0} (children : X → List X) where
   pub all_closed-more : (made : List (Made X)) (i : ℕ) (m : Made X) → i < length made
       → m ≡ get_or made i m
       → all_closed children [] (take (i + 1) made)
-      ≡ put_behind children (all_closed children [] (take i made)) m
+      ≡ with_item children (all_closed children [] (take i made)) m
   all_closed-more made i m lt read =
       ap (all_closed children []) (take_more made i m lt)
       ∙ all_closed-append children [] (take i made) (get_or made i m ∷ [])
-      ∙ ap (put_behind children (all_closed children [] (take i made))) (sym read)
+      ∙ ap (with_item children (all_closed children [] (take i made))) (sym read)
 
   pub open_at : (made : List (Made X)) (i : ℕ) (m : Made X) → AllOpen children [] made
       → i < length made → m ≡ get_or made i m

@@ -138,7 +138,8 @@ module _ {X : Type 0} (children : X → List X) where
       part false e = tt
 
   -- all children of an item are a range, whatever is made of it
-  range_of_all : (x : X) (n : ℕ) → n ≡ length (children x) → slice_range (children x) 0 n ≡ children x
+  range_of_all : (x : X) (n : ℕ) → n ≡ length (children x)
+      → slice_range (children x) 0 n ≡ children x
   range_of_all x n h =
       let z : n - 0 ≡ n = omega arith in
       ap (λ m. take m (children x)) z ∙ take_all n (children x) (omega arith)
@@ -310,7 +311,8 @@ module _ {X : Type 0} (children : X → List X) where
             ∙ ap (λ x. all_items children before ++ x ∷ []) (sym known.0);
         after_is = ap (all_items children) n
             ∙ all_items-append children before (all_children item fan opened)
-            ∙ ap (λ l. all_items children before ++ l) (all_children-items children item fan opened wide);
+            ∙ ap (λ l. all_items children before ++ l)
+            (all_children-items children item fan opened wide);
         kept = record {
           whole = subst (AllWhole children) (sym n)
               (AllWhole-append children before (all_children item fan opened)

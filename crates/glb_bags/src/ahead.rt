@@ -1,10 +1,13 @@
 //! Making children ahead: where the last item of a bag is not made, it is made together with others
-//! of its parent that are not, up to eight in one call.
-ghost use Rattle.std.specs.Prelude.{◌≡◌, ◌+◌, ◌-◌, ◌<◌, ◌≤◌, ◌++◌, List, [], ◌∷◌, length, map, take, drop};
-ghost use Rattle.std.specs.Prelude.{All, Some, IfSome, OnOk, slice_get, vec_len, vec_capacity};
+//! of its parent that are not, up to eight in one call. Where these are fewer than four, one more
+//! item is opened: its children are made in the same call, before its turn comes.
+ghost use Rattle.std.specs.Prelude.{◌≡◌, ◌+◌, ◌-◌, ◌<◌, ◌≤◌, ◌++◌, List, [], ◌∷◌};
+ghost use Rattle.std.specs.Prelude.{length, map, take, drop, All, Some, IfSome, OnOk, slice_get};
+ghost use Rattle.std.specs.Prelude.{vec_len, vec_capacity};
 ghost use Rattle.std.specs.List.{range_with_len};
-ghost use Rattle.glb_bags.specs.Ranges.{AllWhole, AllOpen, IsHeld, all_items, all_closed, closed};
-ghost use Rattle.glb_bags.specs.inner.Entries.{IsLastReady, IsLastUnmade, IsAsked, opened};
+ghost use Rattle.glb_bags.specs.Ranges.{AllWhole, AllOpen, IsHeld, all_items, all_closed};
+ghost use Rattle.glb_bags.specs.Ranges.{closed_item};
+ghost use Rattle.glb_bags.specs.inner.Entries.{IsLastReady, IsLastUnmade, IsAsked, opened_item};
 
 use super::entry::{Entry, Made, is_ready};
 use glb_laws::{NoMemory, Program, Ranged};
@@ -94,7 +97,8 @@ fn find_closed<P: Ranged>(
 ) -> Option<Found<P::Item>>
 where
     P::Item: Copy,
-    ensures closed { IfSome result (λ f. slice_get made.now.items f.place ≡ Some (closed f.item)) }
+    ensures closed { IfSome result (λ f.
+        slice_get made.now.items f.place ≡ Some (closed_item f.item)) }
     ensures fan { IfSome result (λ f. f.fan ≡ length (P.children program.now f.item)) }
     ensures most { IfSome result (λ f. (0 < f.fan) × (f.fan ≤ most)) }
 {
@@ -146,8 +150,8 @@ where
 fn open_item<I: Copy>(made: &mut Vec<Made<I>>, place: usize, item: I, fresh: &[I])
     requires place { place < vec_len made.old }
     requires room { vec_len made.old + length fresh.now ≤ vec_capacity made.old }
-    ensures items { made.new.items ≡ take place made.old.items ++ map closed fresh.now
-        ++ opened item ∷ drop (place + 1) made.old.items }
+    ensures items { made.new.items ≡ take place made.old.items ++ map closed_item fresh.now
+        ++ opened_item item ∷ drop (place + 1) made.old.items }
     ensures len { vec_len made.new ≡ vec_len made.old + length fresh.now }
     ensures capacity { vec_capacity made.new ≡ vec_capacity made.old }
 {
@@ -169,7 +173,7 @@ fn open_item<I: Copy>(made: &mut Vec<Made<I>>, place: usize, item: I, fresh: &[I
 /// Puts items in that are made.
 fn put_made<I: Copy>(made: &mut Vec<Made<I>>, fresh: &[I])
     requires room { vec_len made.old + length fresh.now ≤ vec_capacity made.old }
-    ensures { made.new.items ≡ made.old.items ++ map closed fresh.now }
+    ensures { made.new.items ≡ made.old.items ++ map closed_item fresh.now }
 {
     for item in fresh {
         made.push_reserved(Made {

@@ -2,7 +2,7 @@
 ghost use Rattle.std.specs.Prelude.{◌≡◌, ◌+◌, ◌<◌, ◌≤◌, ◌↔◌, [], length, drop, map};
 ghost use Rattle.std.specs.Prelude.{vec_len, OnErr, OnOk, IfOk, IfSome, IfNone, IsNone};
 ghost use Rattle.glb_bags.specs.Ranges.{AllWhole, IsHeld, AllOpen, all_items, all_made};
-ghost use Rattle.glb_bags.specs.Ranges.{closed, all_closed};
+ghost use Rattle.glb_bags.specs.Ranges.{closed_item, all_closed};
 ghost use Rattle.glb_bags.specs.inner.Entries.{IsCut};
 
 use super::entry::{Entry, Made, count_items, count_made};
@@ -35,7 +35,7 @@ where
     P::Item: Copy,
     requires { AllOpen (P.children program.now) [] made.now }
     ensures { IfOk result (λ copy.
-        copy.items ≡ map closed (all_closed (P.children program.now) [] made.now)) }
+        copy.items ≡ map closed_item (all_closed (P.children program.now) [] made.now)) }
 {
     let mut copy = Vec::with_capacity(alloc, made.len())?;
     for each in made {
@@ -62,7 +62,8 @@ where
     requires held { IsHeld (P.children program.now) _entries.now.items made.old.items }
     ensures held { IsHeld (P.children program.now) _entries.now.items made.new.items }
     ensures closed { OnOk result
-        (made.new.items ≡ map closed (all_made (P.children program.now) _entries.now.items)) }
+        (made.new.items
+        ≡ map closed_item (all_made (P.children program.now) _entries.now.items)) }
 {
     *made = closed_copy(program, *made.allocator(), made)?;
     Ok(())
@@ -79,7 +80,7 @@ where
     P::Item: Copy,
     requires whole { AllWhole (P.children _program.now) entries.old.items }
     requires made { made.old.items
-        ≡ map closed (all_made (P.children _program.now) entries.old.items) }
+        ≡ map closed_item (all_made (P.children _program.now) entries.old.items) }
     requires some { 1 ≤ half }
     requires within { half < length entries.old.items }
     ensures cut { IfOk result (λ part.
@@ -108,7 +109,7 @@ where
     P::Item: Copy,
     requires whole { AllWhole (P.children _program.now) entries.old.items }
     requires made { made.old.items
-        ≡ map closed (all_made (P.children _program.now) entries.old.items) }
+        ≡ map closed_item (all_made (P.children _program.now) entries.old.items) }
     requires one { length entries.old.items ≡ 1 }
     ensures none { IfOk result (λ o. IsNone o
         → length (all_items (P.children _program.now) entries.old.items) < 2) }

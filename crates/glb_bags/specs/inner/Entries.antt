@@ -41,8 +41,8 @@ all_children parent fan opened =
     cond (nat_lt 0 fan) (Range parent 0 (cond opened 0 fan) fan ∷ []) []
 
 -- an item whose children are made
-abbrev pub opened : {X : Type 0} → X → Made X
-opened x = record { item = x; opened = true }
+abbrev pub opened_item : {X : Type 0} → X → Made X
+opened_item x = record { item = x; opened = true }
 
 -- the last children of entries that are not made are asked for, and counted as made
 pub record IsAsked {X : Type 0} (children : X → List X) (old new : List (Entry X))

@@ -1,8 +1,8 @@
 use Rattle.std.proofs.Common.{◌≡◌, ◌+◌, ◌-◌, ◌++◌, ◌∷◌, [], ◌∙◌, ap, map, refl, sym, subst, arith, length, take, drop, length-take, slice_get}
 use Rattle.std.proofs.lemmas.Option.{slice_get_within}
 use Rattle.std.specs.Prelude.{Some}
-use Rattle.glb_bags.specs.Ranges.{AllOpen, closed}
-use Rattle.glb_bags.specs.inner.Entries.{opened}
+use Rattle.glb_bags.specs.Ranges.{AllOpen, closed_item}
+use Rattle.glb_bags.specs.inner.Entries.{opened_item}
 use Rattle.glb_bags.proofs.GroupsOfChildren.{group_within, numbers_of_all}
 use Rattle.glb_bags.proofs.OpenedItems.{Opens, opens, read_split}
 use Rattle.glb_bags.proofs.ahead.make_and_open.Goals as goal
@@ -30,7 +30,8 @@ pub open_item-requires-clause-place : goal.open_item-requires-clause-place
 open_item-requires-clause-place g c =
     omega (
       arith,
-      slice_get_within c.args.made.now.items c.in-Some.found.place (closed c.in-Some.found.item)
+      slice_get_within c.args.made.now.items c.in-Some.found.place
+          (closed_item c.in-Some.found.item)
           c.in-Some.ensures.closed,
       c.args.made.now.ok.0,
     )
@@ -77,18 +78,18 @@ opens_here g c =
     let rest = drop c.len-count.result c.make_asked.new.fresh in
     let front = take place made in
     let back = drop (place + 1) made in
-    let parts : made ≡ front ++ closed item ∷ back =
-    read_split made place (closed item) c.in-Some.ensures.closed in
+    let parts : made ≡ front ++ closed_item item ∷ back =
+    read_split made place (closed_item item) c.in-Some.ensures.closed in
     let long : c.len.result ≡ length c.deref.result.now =
     omega (arith, c.len.ensures, c.deref.ensures.len) in
     let all : take (c.len.result - c.len-count.result) rest ≡ children item =
     ap (λ n. take (n - c.len-count.result) rest) long ∙ (made_here g c).1 in
-    let after : (front ++ map closed (children item)) ++ opened item ∷ back
+    let after : (front ++ map closed_item (children item)) ++ opened_item item ∷ back
     ≡ c.open_item.new.made.items =
-    ap (λ l. (front ++ map closed l) ++ opened item ∷ back) (sym all)
+    ap (λ l. (front ++ map closed_item l) ++ opened_item item ∷ back) (sym all)
     ∙ sym c.open_item.ensures.items in
     subst (λ l. Opens children l c.open_item.new.made.items) (sym parts)
-    (subst (Opens children (front ++ closed item ∷ back)) after
+    (subst (Opens children (front ++ closed_item item ∷ back)) after
     (opens children front back item (subst (AllOpen children []) parts c.requires.all_open)))
 
 pub returns-in-Some-clause-all_open : goal.returns-in-Some-clause-all_open

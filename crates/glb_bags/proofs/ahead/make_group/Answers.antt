@@ -1,7 +1,7 @@
 use Rattle.std.proofs.Common.{◌++◌, ◌∙◌, [], ap, map, arith, take, drop, length}
 use Rattle.std.specs.Prelude.{Some}
 use Rattle.std.proofs.lemmas.List.{take_at}
-use Rattle.glb_bags.specs.Ranges.{all_closed, closed}
+use Rattle.glb_bags.specs.Ranges.{all_closed, closed_item}
 use Rattle.glb_bags.proofs.GroupsOfChildren.{kept_with_group}
 use Rattle.glb_bags.proofs.OpenedItems.{held_more}
 use Rattle.glb_bags.proofs.ahead.make_group.Goals as goal
@@ -27,7 +27,7 @@ returns-clause-held g c =
     (ap (λ l. l ++ group)
     (c.make_and_open.ensures.same ∙ ap (all_closed children []) c.reserve-2.ensures.items)))
     (c.put_made.ensures
-    ∙ ap (λ l. c.make_and_open.new.made.items ++ map closed (take c.len-count.result l))
+    ∙ ap (λ l. c.make_and_open.new.made.items ++ map closed_item (take c.len-count.result l))
     (c.deref.ensures.value
     ∙ take_at c.make_and_open.new.fresh
     (drop (length c.make_and_open.new.fresh) c.if-len-lt-GROUP.fresh.items) _

@@ -1,7 +1,7 @@
 use Rattle.std.proofs.Common.{◌≡◌, ℕ, ◌-◌, ◌≤◌, ◌∙◌, [], ap, sym, arith, length, take, map, false, true, vec_len}
 use Rattle.std.specs.Prelude.{vec_capacity}
 use Rattle.std.proofs.lemmas.List.{length-map}
-use Rattle.glb_bags.specs.Ranges.{all_closed, closed}
+use Rattle.glb_bags.specs.Ranges.{all_closed, closed_item}
 use Rattle.glb_bags.proofs.OpenedItems.{all_closed-more, copy_step, enough_before, open_at}
 use Rattle.glb_bags.proofs.halves.closed_copy.Goals as goal
 use Rattle.glb_bags.proofs.halves.closed_copy.Goals.{then-opened, else-opened}
@@ -21,7 +21,7 @@ overflow_sub-len g c =
       c.fan.ensures,
       c.len.ensures,
       ap length c.loop-each.invariant.copy,
-      length-map before closed,
+      length-map before closed_item,
       c.loop-each.copy.ok.0,
     )
 
@@ -44,14 +44,19 @@ loop-each-preserved g c =
             arith,
             w.len.ensures,
             ap length c.loop-each.invariant.copy,
-            length-map before closed,
+            length-map before closed_item,
             c.loop-each.copy.ok.0,
           ) in (
             (λ e. ap (λ v. v.items) w.copy-is ∙ w.truncate.ensures.items
                 ∙ ap (λ k. take k old) (omega (arith, size, w.fan.ensures))),
             (λ e. cc),
             omega (arith, ap vec_len w.copy-is, w.truncate.ensures.len, c.loop-each.invariant.len),
-            omega (arith, ap vec_capacity w.copy-is, w.truncate.ensures.capacity, c.loop-each.invariant.capacity),
+            omega (
+              arith,
+              ap vec_capacity w.copy-is,
+              w.truncate.ensures.capacity,
+              c.loop-each.invariant.capacity,
+            ),
           )
       | else-opened w ↦ (
         (λ e. cc),
@@ -63,7 +68,7 @@ loop-each-preserved g c =
     record {
       copy = copy_step children before m old cut c.push_reserved.new.self.items
           c.loop-each.invariant.copy facts.0 facts.1 c.push_reserved.ensures.items
-          ∙ ap (map closed)
+          ∙ ap (map closed_item)
           (sym (all_closed-more children made i m c.loop-each-test.true c.each-item.is));
       len = omega (arith, facts.2, c.push_reserved.ensures.len);
       capacity = omega (arith, facts.3, c.push_reserved.ensures.capacity);

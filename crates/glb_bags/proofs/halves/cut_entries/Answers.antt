@@ -1,7 +1,7 @@
 use Rattle.std.proofs.Common.{◌≡◌, ◌∙◌, ap, arith, drop, refl, take, length}
 use Rattle.std.specs.List.{sum_by}
 use Rattle.std.proofs.lemmas.List.{take-map, drop-map, length-map}
-use Rattle.glb_bags.specs.Ranges.{IsKept, all_made, closed}
+use Rattle.glb_bags.specs.Ranges.{IsKept, all_made, closed_item}
 use Rattle.glb_bags.specs.inner.Entries.{made_size}
 use Rattle.glb_bags.proofs.EntriesCutInTwo.{cut_between, cut_held, made_before}
 use Rattle.glb_bags.proofs.halves.cut_entries.Goals as goal
@@ -18,7 +18,7 @@ copy_from-requires g c =
       c.count_made-count.ensures,
       fewer,
       ap length c.requires.made,
-      length-map (all_made children old) closed,
+      length-map (all_made children old) closed_item,
       c.args.made.now.ok.0,
       ap (λ l. sum_by made_size (take c.args.half l)) c.deref.ensures.value,
     )
@@ -38,7 +38,7 @@ returns-clause-cut g c =
       c.count_made-count.ensures,
       fewer,
       ap length c.requires.made,
-      length-map xs closed,
+      length-map xs closed_item,
       c.args.made.now.ok.0,
       ap (λ l. sum_by made_size (take c.args.half l)) c.deref.ensures.value,
     ) in
@@ -49,6 +49,6 @@ returns-clause-cut g c =
     (ap (λ v. v.items) c.replace.ensures.after ∙ c.in_ok-rest.ensures.tail)
     count refl refl)
     (ap (λ v. v.items) c.replace-2.ensures.value ∙ c.truncate.ensures.items
-    ∙ ap (take n) c.requires.made ∙ take-map closed n xs)
+    ∙ ap (take n) c.requires.made ∙ take-map closed_item n xs)
     (ap (λ v. v.items) c.replace-2.ensures.after ∙ c.in_ok-rest_made.ensures
-    ∙ ap (drop n) c.requires.made ∙ drop-map closed n xs)
+    ∙ ap (drop n) c.requires.made ∙ drop-map closed_item n xs)

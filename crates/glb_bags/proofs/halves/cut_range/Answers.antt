@@ -1,6 +1,6 @@
 use Rattle.std.proofs.Common.{◌≡◌, ◌++◌, ◌∷◌, [], ◌∙◌, ap, set, ◌-◌, ◌+◌, ◌/◌, ◌≤◌, arith, ℕ, take, drop, refl}
 use Rattle.std.proofs.lemmas.List.{take-map, drop-map}
-use Rattle.glb_bags.specs.Ranges.{IsKept, all_made, closed}
+use Rattle.glb_bags.specs.Ranges.{IsKept, all_made, closed_item}
 use Rattle.glb_bags.specs.declared.entry.Entry.TheVariants.{Range}
 use Rattle.glb_bags.proofs.EntriesCutInTwo.{cut_inside, cut_held, only_one}
 use Rattle.glb_bags.proofs.halves.cut_range.Goals as goal
@@ -34,7 +34,7 @@ returns-in_ok-push-in-Range-clause-cut g c =
     refl refl)
     (ap (λ v. v.items) c.replace.ensures.value ∙ c.truncate.ensures.items
     ∙ ap (λ k. take k c.args.made.now.items) count
-    ∙ ap (take k) c.requires.made ∙ take-map closed k xs)
+    ∙ ap (take k) c.requires.made ∙ take-map closed_item k xs)
     (ap (λ v. v.items) c.replace.ensures.after ∙ c.in_ok-rest_made-in-Range.ensures
     ∙ ap (λ k. drop k c.args.made.now.items) count
-    ∙ ap (drop k) c.requires.made ∙ drop-map closed k xs)
+    ∙ ap (drop k) c.requires.made ∙ drop-map closed_item k xs)

@@ -1,7 +1,7 @@
 use Rattle.std.proofs.Common.{◌++◌, ◌∷◌, [], ◌∙◌, ap, sym, subst, arith, length, length-append}
 use Rattle.std.specs.List.Sorted.{IsPermutation}
 use Rattle.std.proofs.lemmas.List.Sorted.{IsPermutation-sym, IsPermutation-to_front}
-use Rattle.glb_bags.specs.Ranges.{AllWhole, all_items, all_made, closed}
+use Rattle.glb_bags.specs.Ranges.{AllWhole, all_items, all_made, closed_item}
 use Rattle.glb_bags.specs.declared.entry.Entry.TheVariants.{One}
 use Rattle.glb_bags.proofs.RangesOfChildren.{AllWhole-append, all_items-append, all_made-append}
 use Rattle.glb_bags.proofs.OpenedItems.{held_more}
@@ -21,7 +21,7 @@ returns-in-Ok-push-clause-held g c =
           ∙ sym (all_made-append children old (One x ∷ []))
           ∙ sym (ap (all_made children) c.in-Ok-push.ensures.items);
     })
-    (c.push_reserved.ensures.items ∙ ap (λ l. l ++ closed x ∷ []) c.in-Ok.ensures.items)
+    (c.push_reserved.ensures.items ∙ ap (λ l. l ++ closed_item x ∷ []) c.in-Ok.ensures.items)
 
 pub returns-in-Ok-push-clause-added : goal.returns-in-Ok-push-clause-added
 returns-in-Ok-push-clause-added g c =
