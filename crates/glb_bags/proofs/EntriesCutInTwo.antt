@@ -1,15 +1,38 @@
 -- Entries that are cut in two, with what is made of them.
-use Rattle.std.proofs.Common.{◌≡◌, ℕ, ◌-◌, ◌<◌, ◌≤◌, ◌++◌, ◌∷◌, [], List, length, take, drop, min, max, sym, ap, ap₂, subst, ◌∙◌, arith, append-nil, length-append, length-drop, length-take, take-append-drop, get_or, inl, inr}
+use Rattle.std.proofs.Common.{◌≡◌, ℕ, ◌-◌, ◌<◌, ◌≤◌, ◌++◌, ◌∷◌, [], List, length, take, drop, map, min, max, sym, ap, ap₂, subst, ◌∙◌, arith, append-nil, length-append, length-drop, length-take, take-append-drop, get_or, inl, inr}
 use Rattle.std.proofs.lemmas.List.{take_at, drop_at}
 use Rattle.std.proofs.lemmas.Bool.{cases_lt}
 use Rattle.std.specs.List.{sum_by, slice_range}
 use Rattle.glb_bags.specs.declared.entry.Entry.{Entry}
 use Rattle.glb_bags.specs.declared.entry.Entry.TheVariants.{Range}
-use Rattle.glb_bags.specs.Ranges.{AllWhole, IsKept, all_items, all_made}
+use Rattle.glb_bags.specs.Ranges.{AllWhole, IsKept, closed_item, all_items, all_made}
 use Rattle.glb_bags.specs.inner.Entries.{made_size, IsCut}
+use Rattle.glb_bags.specs.declared.entry.Made.{Made}
+use Rattle.glb_bags.proofs.OpenedItems.{held_closed}
 use Rattle.glb_bags.proofs.RangesOfChildren.{AllWhole-left, AllWhole-right, AllWhole-some, AllWhole-made, all_items-append, all_made-append, cut_of_range, empty_range, length-range}
 
+-- entries that were cut in two, each with what is made of it
+pub record IsCutKept {X : Type 0} (children : X → List X) (old part : List (Entry X))
+    (part_made : List X) (rest : List (Entry X)) (rest_made : List X) : Type 0 where
+  pub part_kept : IsKept children part part_made
+  pub rest_kept : IsKept children rest rest_made
+  pub joined : all_items children old ≡ all_items children part ++ all_items children rest
+  pub part_some : 0 < length (all_items children part)
+  pub rest_some : 0 < length (all_items children rest)
+
 module _ {X : Type 0} (children : X → List X) where
+  -- where no item is opened, what is kept is held
+  pub cut_held : (old part rest : List (Entry X)) (xs ys : List X) (ms ns : List (Made X))
+      → IsCutKept children old part xs rest ys → ms ≡ map closed_item xs → ns ≡ map closed_item ys
+      → IsCut children old part ms rest ns
+  cut_held old part rest xs ys ms ns is m n = record {
+    part_held = held_closed children part xs ms is.part_kept m;
+    rest_held = held_closed children rest ys ns is.rest_kept n;
+    joined = is.joined;
+    part_some = is.part_some;
+    rest_some = is.rest_some;
+  }
+
   -- what is made of the first entries is at most all that is made
   pub made_before : (old : List (Entry X)) (made : List X) (half : ℕ) → IsKept children old made
       → sum_by made_size (take half old) ≤ length made
@@ -32,7 +55,7 @@ module _ {X : Type 0} (children : X → List X) where
       (half count : ℕ) → IsKept children old made → 1 ≤ half → half < length old
       → part ≡ take half old → rest ≡ drop half old → count ≡ sum_by made_size (take half old)
       → part_made ≡ take count made → rest_made ≡ drop count made
-      → IsCut children old part part_made rest rest_made
+      → IsCutKept children old part part_made rest rest_made
   cut_between old part rest made part_made rest_made half count kept some below p r n pm rm =
       let parts : old ≡ part ++ rest =
       sym (take-append-drop half old) ∙ ap (λ l. l ++ drop half old) (sym p)
@@ -99,7 +122,7 @@ module _ {X : Type 0} (children : X → List X) where
       → part ≡ Range parent first (min from middle) middle ∷ []
       → rest ≡ Range parent middle (max from middle) end ∷ []
       → part_made ≡ take (middle - from) made → rest_made ≡ drop (middle - from) made
-      → IsCut children old part part_made rest rest_made
+      → IsCutKept children old part part_made rest rest_made
   cut_inside old part rest made part_made rest_made parent first from middle end kept o a b p r pm
       rm =
       let xs : List X = children parent in

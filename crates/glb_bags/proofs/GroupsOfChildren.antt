@@ -1,7 +1,8 @@
 -- Children that are asked for together, and made.
-use Rattle.std.proofs.Common.{◌≡◌, ℕ, zero, suc, ◌+◌, ◌<◌, ◌≤◌, ◌++◌, ◌∷◌, [], List, length, take, drop, get_or, Some, map, refl, sym, ap, ap₂, subst, ◌∙◌, arith, append-nil, length-append, slice_get, take-append-drop}
-use Rattle.std.specs.List.{range_with_len}
-use Rattle.std.proofs.lemmas.List.{map-append, drop_more, take_all, take_at}
+use Rattle.std.proofs.Common.{◌≡◌, ℕ, zero, suc, ◌+◌, ◌-◌, ◌<◌, ◌≤◌, ◌++◌, ◌∷◌, [], List, length, take, drop, get_or, Some, map, refl, sym, ap, ap₂, subst, ◌∙◌, arith, append-nil, length-append, length-take, take-add, slice_get}
+use Rattle.std.specs.List.{All, range_with_len}
+use Rattle.std.proofs.lemmas.List.Elements.{All-append}
+use Rattle.std.proofs.lemmas.List.{map-append, length-map, take-map, drop-map, drop_more, drop_at, take_all, take_at}
 use Rattle.std.proofs.lemmas.List.FromFn.{length-map-range_with_len, get_or-map-range_with_len}
 use Rattle.std.proofs.lemmas.Option.{slice_get-get_or}
 use Rattle.glb_bags.specs.declared.entry.Entry.{Entry}
@@ -116,15 +117,72 @@ module _ {X : Type 0} (children : X → List X) where
         ∙ sym is.made_is);
   }
 
--- a group that was written behind what is made
-pub put_behind : {X : Type 0} (made resized into fill : List X) (place more n : ℕ)
-    → length made ≡ place → resized ≡ take (place + more) made ++ fill
-    → take place into ≡ take place resized → length into ≡ n
-    → take n (into ++ drop (length into) resized) ≡ made ++ drop place into
-put_behind made resized into fill place more n long grown before size =
-    take_at into (drop (length into) resized) n size
-    ∙ sym (take-append-drop place into)
-    ∙ ap (λ l. l ++ drop place into)
-    (before ∙ ap (take place) grown
-    ∙ ap (λ l. take place (l ++ fill)) (take_all (place + more) made (omega arith))
-    ∙ take_at made fill place long)
+  -- what was made of all children of an item, behind what was asked for before
+  pub group_of_all : (old asked : List (X × ℕ)) (fresh : List X) (x : X) (fan count : ℕ)
+      → asked ≡ old ++ map (λ n. (x, n)) (range_with_len 0 fan)
+      → map Some fresh ≡ map (λ a. slice_get (children a.0) a.1) asked
+      → fan ≡ length (children x) → length old ≡ count
+      → (map Some (take count fresh) ≡ map (λ a. slice_get (children a.0) a.1) old)
+      × (drop count fresh ≡ children x)
+  group_of_all old asked fresh x fan count a given wide long =
+      let ns : List ℕ = range_with_len 0 fan in
+      let front = map (λ b. slice_get (children b.0) b.1) old in
+      let size : length front ≡ count = length-map old (λ b. slice_get (children b.0) b.1) ∙ long in
+      let parts : map Some fresh ≡ front ++ map (slice_get (children x)) ns =
+      given ∙ ap (map (λ b. slice_get (children b.0) b.1)) a
+      ∙ map-append (λ b. slice_get (children b.0) b.1) old
+      (map (λ n. let b : X × ℕ = (x, n) in b) ns)
+      ∙ ap (λ l. front ++ l) (read_of_asked children x ns) in (
+        sym (take-map Some count fresh) ∙ ap (take count) parts
+            ∙ take_at front (map (slice_get (children x)) ns) count size,
+        same_when_read (drop count fresh) (children x)
+            (sym (drop-map Some count fresh) ∙ ap (drop count) parts
+            ∙ drop_at front (map (slice_get (children x)) ns) count size
+            ∙ sym (read_in_a_row (children x) x 0 fan (omega arith))
+            ∙ ap (map Some) (take_all fan (children x) (omega arith))),
+      )
+
+  -- the same where more stands behind what was made
+  pub group_within : (old asked : List (X × ℕ)) (fresh : List X) (x : X) (fan count n : ℕ)
+      → asked ≡ old ++ map (λ n. (x, n)) (range_with_len 0 fan)
+      → map Some (take n fresh) ≡ map (λ a. slice_get (children a.0) a.1) asked
+      → fan ≡ length (children x) → length old ≡ count → n ≡ length asked
+      → (map Some (take count fresh) ≡ map (λ a. slice_get (children a.0) a.1) old)
+      × (take (n - count) (drop count fresh) ≡ children x)
+  group_within old asked fresh x fan count n a given wide long all =
+      let some : List X = take n fresh in
+      let front : List X = take count fresh in
+      let back : List X = take (n - count) (drop count fresh) in
+      let made : length some ≡ length asked =
+      sym (length-map some Some) ∙ ap length given
+      ∙ length-map asked (λ b. slice_get (children b.0) b.1) in
+      let more : count + (n - count) ≡ n =
+      omega (
+        arith,
+        ap length a,
+        length-append old (map (λ n. let b : X × ℕ = (x, n) in b) (range_with_len 0 fan)),
+      ) in
+      let size : length front ≡ count =
+      omega (arith, length-take count fresh, length-take n fresh) in
+      let parts : some ≡ front ++ back =
+      ap (λ i. take i fresh) (sym more) ∙ take-add count (n - count) fresh in
+      let both = group_of_all old asked some x fan count a given wide long in (
+        ap (map Some) (sym (ap (take count) parts ∙ take_at front back count size)) ∙ both.0,
+        sym (ap (drop count) parts ∙ drop_at front back count size) ∙ both.1,
+      )
+
+  -- all children of an item may be asked for
+  pub numbers_of_all : (old asked : List (X × ℕ)) (x : X) (fan : ℕ)
+      → asked ≡ old ++ map (λ n. (x, n)) (range_with_len 0 fan) → fan ≡ length (children x)
+      → All (λ a. a.1 < length (children a.0)) old
+      → All (λ a. a.1 < length (children a.0)) asked
+  numbers_of_all old asked x fan a wide before =
+      subst (All (λ b. b.1 < length (children b.0))) (sym a)
+      (All-append (λ b. b.1 < length (children b.0)) old (map (λ n. (x, n)) (range_with_len 0 fan))
+      before (λ k d lt.
+      let within : k < fan =
+      omega (arith, length-map-range_with_len {X = X × ℕ} (λ n. (x, n)) 0 fan) in
+      subst (λ b. b.1 < length (children b.0))
+      (sym (get_or-map-range_with_len {X = X × ℕ} (λ n. (x, n)) 0 fan k k d within
+      (omega arith)))
+      (omega arith)))

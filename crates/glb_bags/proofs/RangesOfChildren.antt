@@ -122,35 +122,51 @@ module _ {X : Type 0} (children : X → List X) where
           ((omega arith, whole.1, omega (arith, ready), omega (arith, whole.3)), tt)
       part false e = tt
 
-  pub all_children-whole : (x : X) (n : ℕ) → n ≡ length (children x)
-      → AllWhole children (all_children x n)
-  all_children-whole x n h = part (nat_lt 0 n) refl
+  pub all_children-whole : (x : X) (n : ℕ) (opened : Bool) → n ≡ length (children x)
+      → AllWhole children (all_children x n opened)
+  all_children-whole x n opened h = part (nat_lt 0 n) refl
     where
-      part : (b : Bool) → nat_lt 0 n ≡ b → AllWhole children (cond b (Range x 0 n n ∷ []) [])
+      low : (o : Bool) → cond o 0 n ≤ n
+      low true = omega arith
+      low false = omega arith
+
+      part : (b : Bool) → nat_lt 0 n ≡ b
+          → AllWhole children (cond b (Range x 0 (cond opened 0 n) n ∷ []) [])
       part true e =
           let l : 0 < n = ltb-true 0 n e in
-          ((l, omega arith, omega arith, omega arith), tt)
+          ((l, omega arith, low opened, omega arith), tt)
       part false e = tt
 
-  pub all_children-items : (x : X) (n : ℕ) → n ≡ length (children x)
-      → all_items children (all_children x n) ≡ children x
-  all_children-items x n h = part (nat_lt 0 n) refl
+  -- all children of an item are a range, whatever is made of it
+  range_of_all : (x : X) (n : ℕ) → n ≡ length (children x)
+      → slice_range (children x) 0 n ≡ children x
+  range_of_all x n h =
+      let z : n - 0 ≡ n = omega arith in
+      ap (λ m. take m (children x)) z ∙ take_all n (children x) (omega arith)
+
+  pub all_children-items : (x : X) (n : ℕ) (opened : Bool) → n ≡ length (children x)
+      → all_items children (all_children x n opened) ≡ children x
+  all_children-items x n opened h = part (nat_lt 0 n) refl
     where
       part : (b : Bool) → nat_lt 0 n ≡ b
-          → all_items children (cond b (Range x 0 n n ∷ []) []) ≡ children x
-      part true e =
-          let z : n - 0 ≡ n = omega arith in
-          append-nil _ ∙ ap (λ m. take m (children x)) z ∙ take_all n (children x) (omega arith)
+          → all_items children (cond b (Range x 0 (cond opened 0 n) n ∷ []) []) ≡ children x
+      part true e = append-nil _ ∙ range_of_all x n h
       part false e =
           let l : n ≤ 0 = ltb-false 0 n e in
           sym (nil_from_length (children x) (omega arith))
 
-  pub all_children-made : (x : X) (n : ℕ) → all_made children (all_children x n) ≡ []
-  all_children-made x n = part (nat_lt 0 n)
+  pub all_children-made : (x : X) (n : ℕ) (opened : Bool) → n ≡ length (children x)
+      → all_made children (all_children x n opened) ≡ cond opened (children x) []
+  all_children-made x n opened h = part (nat_lt 0 n) opened refl
     where
-      part : (b : Bool) → all_made children (cond b (Range x 0 n n ∷ []) []) ≡ []
-      part true = append-nil _ ∙ empty_range (children x) n n (omega arith)
-      part false = refl
+      part : (b o : Bool) → nat_lt 0 n ≡ b
+          → all_made children (cond b (Range x 0 (cond o 0 n) n ∷ []) []) ≡ cond o (children x) []
+      part true true e = append-nil _ ∙ range_of_all x n h
+      part true false e = append-nil _ ∙ empty_range (children x) n n (omega arith)
+      part false true e =
+          let l : n ≤ 0 = ltb-false 0 n e in
+          sym (nil_from_length (children x) (omega arith))
+      part false false e = refl
 
 -- a list and its last element
 pub last_split : {X : Type 0} (xs : List X) (x : X) → 0 < length xs
@@ -265,12 +281,13 @@ module _ {X : Type 0} (children : X → List X) where
 
   -- the last entry gives up its last item, and the item's children come last
   pub taken : (entries front after : List (Entry X)) (made made_after : List X) (e : Entry X)
-      (item : X) (fan : ℕ) → IsKept children entries made → entries ≡ front ++ e ∷ []
-      → IsReady e → item ≡ get_or made (length made - 1) item
-      → made_after ≡ take (length made - 1) made → fan ≡ length (children item)
-      → after ≡ (front ++ without_last e) ++ all_children item fan
+      (item : X) (fan : ℕ) (opened : Bool) → IsKept children entries made
+      → entries ≡ front ++ e ∷ [] → IsReady e → item ≡ get_or made (length made - 1) item
+      → made_after ≡ take (length made - 1) made ++ cond opened (children item) []
+      → fan ≡ length (children item)
+      → after ≡ (front ++ without_last e) ++ all_children item fan opened
       → IsTaken children entries after made_after item
-  taken entries front after made made_after e item fan kept o ready read cut wide n =
+  taken entries front after made made_after e item fan opened kept o ready read cut wide n =
       let left = AllWhole-left children front (e ∷ []) (subst (AllWhole children) o kept.whole) in
       let whole = last_whole entries front e kept.whole o in
       let last = gives_up children e whole ready in
@@ -293,18 +310,19 @@ module _ {X : Type 0} (children : X → List X) where
             ∙ ap (λ l. l ++ last.item ∷ []) (sym (all_items-append children front (without_last e)))
             ∙ ap (λ x. all_items children before ++ x ∷ []) (sym known.0);
         after_is = ap (all_items children) n
-            ∙ all_items-append children before (all_children item fan)
-            ∙ ap (λ l. all_items children before ++ l) (all_children-items children item fan wide);
+            ∙ all_items-append children before (all_children item fan opened)
+            ∙ ap (λ l. all_items children before ++ l)
+            (all_children-items children item fan opened wide);
         kept = record {
           whole = subst (AllWhole children) (sym n)
-              (AllWhole-append children before (all_children item fan)
+              (AllWhole-append children before (all_children item fan opened)
               (AllWhole-append children front (without_last e) left
               (without_last-whole children e whole ready))
-              (all_children-whole children item fan wide));
-          made_is = cut ∙ known.1 ∙ sym (append-nil _)
+              (all_children-whole children item fan opened wide));
+          made_is = cut ∙ ap (λ l. l ++ cond opened (children item) []) known.1
               ∙ ap (λ l. all_made children before ++ l)
-              (sym (all_children-made children item fan))
-              ∙ sym (all_made-append children before (all_children item fan))
+              (sym (all_children-made children item fan opened wide))
+              ∙ sym (all_made-append children before (all_children item fan opened))
               ∙ sym (ap (all_made children) n);
         };
       }

@@ -20,6 +20,14 @@ pub enum Entry<I> {
     },
 }
 
+/// An item that is made. Where it is opened its own children are made too, all of them, and stand
+/// right before it.
+#[derive(Clone, Copy)]
+pub struct Made<I> {
+    pub item: I,
+    pub opened: bool,
+}
+
 /// Whether the last item of the entry is made.
 pub(crate) fn is_ready<I: Copy>(entry: &Entry<I>) -> bool
     ensures { IsTrue result ↔ IsReady entry.now }
@@ -69,16 +77,16 @@ pub(crate) fn take_last<I: Copy>(entries: &mut Vec<Entry<I>>)
     let _entry = entries.pop();
 }
 
-/// All children of an item, if there are any.
+/// All children of an item, if there are any: all of them are made, or none is.
 #[inline(always)]
-pub(crate) fn all_children<I: Copy>(parent: I, fan: u64) -> Option<Entry<I>>
-    ensures { option_to_list result ≡ all_children parent fan }
+pub(crate) fn all_children<I: Copy>(parent: I, fan: u64, opened: bool) -> Option<Entry<I>>
+    ensures { option_to_list result ≡ all_children parent fan opened }
 {
     if fan > 0 {
         Some(Entry::Range {
             parent,
             first: 0,
-            made: fan,
+            made: if opened { 0 } else { fan },
             end: fan,
         })
     } else {

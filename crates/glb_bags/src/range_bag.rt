@@ -4,11 +4,11 @@ ghost use Rattle.std.specs.Prelude.{◌≡◌, ◌+◌, ◌-◌, ◌^◌, ◌<�
 ghost use Rattle.std.specs.Prelude.{OnErr, OnOk, IfErr, IfOk, IsTrue, IsPermutation};
 ghost use Rattle.std.specs.Prelude.{slice_index_or, vec_len};
 ghost use Rattle.glb_laws.specs.Expansion.{Expands};
-ghost use Rattle.glb_bags.specs.Ranges.{IsKept, all_items};
+ghost use Rattle.glb_bags.specs.Ranges.{IsHeld, all_items};
 ghost use Rattle.glb_bags.specs.inner.LastItem.{TakesLast};
 
-use super::ahead::make_last;
-use super::entry::{Entry, all_children, push_some, take_last};
+use super::ahead::{Group, make_last};
+use super::entry::{Entry, Made, all_children, push_some, take_last};
 use super::halves::{Half, count_part, cut_half};
 use glb_laws::{Bag, Monoid, NoMemory, Program, Ranged, Stopped};
 use std::alloc::Global;
@@ -16,7 +16,7 @@ use std::marker::Model;
 
 /// The last of what is made.
 #[inline(always)]
-fn last_made<I: Copy>(made: &Vec<I>) -> I
+fn last_made<I: Copy>(made: &Vec<Made<I>>) -> Made<I>
     requires { 0 < vec_len made.now }
     ensures { result ≡ slice_index_or made.now.items (vec_len made.now - 1) result }
 {
@@ -27,17 +27,17 @@ fn last_made<I: Copy>(made: &Vec<I>) -> I
 fn expand_last<P: Ranged>(
     program: &P,
     entries: &mut Vec<Entry<P::Item>>,
-    made: &mut Vec<P::Item>,
-    asked: &mut Vec<(P::Item, u64)>,
+    made: &mut Vec<Made<P::Item>>,
+    group: &mut Group<P::Item>,
     count: &mut u64,
     acc: &mut P::Value,
 ) -> Result<(), NoMemory>
 where
     P::Item: Copy,
-    requires kept { IsKept (P.children program.now) entries.old.items made.old.items }
+    requires held { IsHeld (P.children program.now) entries.old.items made.old.items }
     requires some { 0 < length entries.old.items }
     requires count { count.old ≡ length (all_items (P.children program.now) entries.old.items) }
-    ensures kept { IsKept (P.children program.now) entries.new.items made.new.items }
+    ensures held { IsHeld (P.children program.now) entries.new.items made.new.items }
     ensures count { count.new ≡ length (all_items (P.children program.now) entries.new.items) }
     ensures expanded { OnOk result
         (TakesLast (P.children program.now) (P.value program.now) P.Value.combine
@@ -49,8 +49,8 @@ where
     ensures some { OnErr result (0 < length entries.new.items) }
     ensures value_stays { OnErr result (acc.new ≡ acc.old) }
 {
-    make_last(program, entries, made, asked)?;
-    let item = last_made(made);
+    make_last(program, entries, made, group)?;
+    let Made { item, opened } = last_made(made);
     let value = program.weigh(&item)?;
     let fan = program.fan(&item);
     let Some(more) = count.checked_add(fan) else {
@@ -58,8 +58,8 @@ where
     };
     entries.reserve(1)?;
     take_last(entries);
-    let _item = made.pop();
-    push_some(entries, all_children(item, fan));
+    let _made = made.pop();
+    push_some(entries, all_children(item, fan, opened));
     *count = more.saturating_sub(1);
     *acc = acc.combine(&value);
     Ok(())
@@ -70,17 +70,17 @@ fn expand_some<P: Ranged>(
     program: &P,
     n: u64,
     entries: &mut Vec<Entry<P::Item>>,
-    made: &mut Vec<P::Item>,
-    asked: &mut Vec<(P::Item, u64)>,
+    made: &mut Vec<Made<P::Item>>,
+    group: &mut Group<P::Item>,
     count: &mut u64,
     acc: &mut P::Value,
 ) -> Result<u64, Stopped>
 where
     P::Item: Copy,
-    requires kept { IsKept (P.children program.now) entries.old.items made.old.items }
+    requires held { IsHeld (P.children program.now) entries.old.items made.old.items }
     requires some { 1 ≤ n }
     requires count { count.old ≡ length (all_items (P.children program.now) entries.old.items) }
-    ensures kept { IsKept (P.children program.now) entries.new.items made.new.items }
+    ensures held { IsHeld (P.children program.now) entries.new.items made.new.items }
     ensures count { count.new ≡ length (all_items (P.children program.now) entries.new.items) }
     ensures done { IfOk result (λ k.
         Expands (P.children program.now) (P.value program.now) P.Value.combine
@@ -100,7 +100,7 @@ where
 {
     let mut done = 0;
     while done < n && !entries.is_empty() {
-        match expand_last(program, entries, made, asked, count, acc) {
+        match expand_last(program, entries, made, group, count, acc) {
             Ok(()) => done += 1,
             Err(_) => return Err(Stopped { done }),
         }
@@ -112,13 +112,13 @@ where
 fn add_item<P: Ranged>(
     _program: &P,
     entries: &mut Vec<Entry<P::Item>>,
-    made: &mut Vec<P::Item>,
+    made: &mut Vec<Made<P::Item>>,
     item: P::Item,
 ) -> Result<(), (NoMemory, P::Item)>
 where
     P::Item: Copy,
-    requires { IsKept (P.children _program.now) entries.old.items made.old.items }
-    ensures kept { IsKept (P.children _program.now) entries.new.items made.new.items }
+    requires { IsHeld (P.children _program.now) entries.old.items made.old.items }
+    ensures held { IsHeld (P.children _program.now) entries.new.items made.new.items }
     ensures added { OnOk result
         (IsPermutation (item ∷ all_items (P.children _program.now) entries.old.items)
         (all_items (P.children _program.now) entries.new.items)) }
@@ -134,7 +134,10 @@ where
     }
     match entries.push(Entry::One(item)) {
         Ok(()) => {
-            made.push_reserved(item);
+            made.push_reserved(Made {
+                item,
+                opened: false,
+            });
             Ok(())
         }
         Err(_) => Err((NoMemory, item)),
@@ -145,18 +148,18 @@ where
 fn merge_entries<P: Ranged>(
     _program: &P,
     entries: &mut Vec<Entry<P::Item>>,
-    made: &mut Vec<P::Item>,
+    made: &mut Vec<Made<P::Item>>,
     count: &mut u64,
     other: Half<P::Item>,
     more: u64,
 ) -> Result<(), Half<P::Item>>
 where
     P::Item: Copy,
-    requires kept { IsKept (P.children _program.now) entries.old.items made.old.items }
-    requires other_kept { IsKept (P.children _program.now) other.entries.items other.made.items }
+    requires held { IsHeld (P.children _program.now) entries.old.items made.old.items }
+    requires other_held { IsHeld (P.children _program.now) other.entries.items other.made.items }
     requires count { count.old ≡ length (all_items (P.children _program.now) entries.old.items) }
     requires more { more ≡ length (all_items (P.children _program.now) other.entries.items) }
-    ensures kept { IsKept (P.children _program.now) entries.new.items made.new.items }
+    ensures held { IsHeld (P.children _program.now) entries.new.items made.new.items }
     ensures count { count.new ≡ length (all_items (P.children _program.now) entries.new.items) }
     ensures merged { OnOk result
         (IsPermutation (all_items (P.children _program.now) entries.old.items
@@ -196,11 +199,10 @@ where
 {
     program: P,
     entries: Vec<Entry<P::Item>>,
-    made: Vec<P::Item>,
+    made: Vec<Made<P::Item>>,
     /// How many items the entries have.
     count: u64,
-    /// Room for the children that are asked for together.
-    asked: Vec<(P::Item, u64)>,
+    group: Group<P::Item>,
 }
 
 impl<P: Ranged + Copy> Model for RangeBag<P>
@@ -208,13 +210,13 @@ where
     P::Item: Copy,
 {
     ghost use Rattle.std.specs.Prelude.{◌≡◌, List, length};
-    ghost use Rattle.glb_bags.specs.Ranges.{all_items, IsKept};
+    ghost use Rattle.glb_bags.specs.Ranges.{all_items, IsHeld};
 
     ghost Value = { P × List P.Item };
 
     ghost view = { λ b. (b.program, all_items (P.children b.program) b.entries.items) };
 
-    ghost invariant = { λ b. IsKept (P.children b.program) b.entries.items b.made.items
+    ghost invariant = { λ b. IsHeld (P.children b.program) b.entries.items b.made.items
         × (b.count ≡ length (all_items (P.children b.program) b.entries.items)) };
 }
 
@@ -232,7 +234,7 @@ where
             entries: Vec::new(alloc),
             made: Vec::new(alloc),
             count: 0,
-            asked: Vec::new(alloc),
+            group: Group::new(alloc),
         }
     }
 
@@ -263,14 +265,14 @@ where
             n,
             &mut self.entries,
             &mut self.made,
-            &mut self.asked,
+            &mut self.group,
             &mut self.count,
             acc,
         )
     }
 
     fn split(&mut self) -> Result<Option<Self>, NoMemory> {
-        let alloc = *self.asked.allocator();
+        let alloc = *self.entries.allocator();
         let Some(part) = cut_half(&self.program, &mut self.entries, &mut self.made)? else {
             return Ok(None);
         };
@@ -282,7 +284,7 @@ where
             entries,
             made,
             count,
-            asked: Vec::new(alloc),
+            group: Group::new(alloc),
         }))
     }
 
@@ -292,7 +294,7 @@ where
             entries,
             made,
             count,
-            asked,
+            group,
         } = other;
         let other = Half { entries, made };
         let Err(other) = merge_entries(
@@ -313,7 +315,7 @@ where
                 entries,
                 made,
                 count,
-                asked,
+                group,
             },
         ))
     }

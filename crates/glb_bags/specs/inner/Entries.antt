@@ -1,9 +1,10 @@
 -- What the private functions of a range bag do with entries.
-use Rattle.std.specs.Prelude.{◌≡◌, ◌++◌, ℕ, ◌+◌, ◌-◌, ◌<◌, List, [], ◌∷◌, length, cond, nat_lt, map}
+use Rattle.std.specs.Prelude.{◌≡◌, ◌++◌, ℕ, ◌+◌, ◌-◌, ◌<◌, List, [], ◌∷◌, length, cond, nat_lt, map, Bool, true}
 use Rattle.std.specs.Prelude.{All, Some, slice_get, slice_index_or}
 use Rattle.glb_bags.specs.declared.entry.Entry.{Entry}
 use Rattle.glb_bags.specs.declared.entry.Entry.TheVariants.{One, Range}
-use Rattle.glb_bags.specs.Ranges.{AllWhole, IsKept, all_items, all_made}
+use Rattle.glb_bags.specs.Ranges.{AllWhole, IsHeld, all_items, all_made}
+use Rattle.glb_bags.specs.declared.entry.Made.{Made}
 
 -- how many items an entry has
 abbrev pub entry_size : {X : Type 0} → Entry X → ℕ
@@ -34,9 +35,14 @@ without_last (One x) = []
 without_last (Range parent first made end) =
     cond (nat_lt (first + 1) end) (Range parent first made (end - 1) ∷ []) []
 
--- the entry of so many children of an item, of which none is made
-abbrev pub all_children : {X : Type 0} → X → ℕ → List (Entry X)
-all_children parent fan = cond (nat_lt 0 fan) (Range parent 0 fan fan ∷ []) []
+-- the entry of so many children of an item: all of them are made where it is opened, else none is
+abbrev pub all_children : {X : Type 0} → X → ℕ → Bool → List (Entry X)
+all_children parent fan opened =
+    cond (nat_lt 0 fan) (Range parent 0 (cond opened 0 fan) fan ∷ []) []
+
+-- an item whose children are made
+abbrev pub opened_item : {X : Type 0} → X → Made X
+opened_item x = record { item = x; opened = true }
 
 -- the last children of entries that are not made are asked for, and counted as made
 pub record IsAsked {X : Type 0} (children : X → List X) (old new : List (Entry X))
@@ -51,9 +57,9 @@ pub record IsAsked {X : Type 0} (children : X → List X) (old new : List (Entry
 
 -- entries were cut into a part and a rest, neither of them empty, each with what is made of it
 pub record IsCut {X : Type 0} (children : X → List X) (old part : List (Entry X))
-    (part_made : List X) (rest : List (Entry X)) (rest_made : List X) : Type 0 where
-  pub part_kept : IsKept children part part_made
-  pub rest_kept : IsKept children rest rest_made
+    (part_made : List (Made X)) (rest : List (Entry X)) (rest_made : List (Made X)) : Type 0 where
+  pub part_held : IsHeld children part part_made
+  pub rest_held : IsHeld children rest rest_made
   pub joined : all_items children old ≡ all_items children part ++ all_items children rest
   pub part_some : 0 < length (all_items children part)
   pub rest_some : 0 < length (all_items children rest)

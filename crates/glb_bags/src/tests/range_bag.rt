@@ -116,6 +116,32 @@ fn what_is_made_goes_along(rt: HostRuntime) -> Result<(), Fail> {
     Ok(())
 }
 
+/// A bag in which the children of the first item are made, with those of the last.
+fn opened_bag(alloc: Global) -> Result<RangeBag<Fans>, Fail> {
+    let mut bag = bag_of(alloc, &[(2, 5), (2, 7)])?;
+    let mut value = SatSum::unit();
+    if bag.process(&Fans, 2, &mut value)? != 2 {
+        return Err(Fail::new("two items are there"));
+    }
+    Ok(bag)
+}
+
+#[test]
+fn an_opened_item_is_taken_and_split_off(rt: HostRuntime) -> Result<(), Fail> {
+    let alloc = rt.alloc();
+    let mut bag = bag_of(alloc, &[(0, 9)])?;
+    assert!(rt; bag.merge(opened_bag(alloc)?).is_ok());
+    assert_eq!(rt; bag.len(), 3);
+    assert_eq!(rt; taken(alloc, bag)?.as_slice(), [0, 5, 1, 0, 9].as_slice());
+    let mut bag = opened_bag(alloc)?;
+    let Some(part) = bag.split()? else {
+        return Err(Fail::new("nothing was split off"));
+    };
+    assert_eq!(rt; taken(alloc, part)?.as_slice(), [5, 1, 0].as_slice());
+    assert_eq!(rt; taken(alloc, bag)?.as_slice(), [0].as_slice());
+    Ok(())
+}
+
 #[test]
 fn entries_are_split_in_their_middle(rt: HostRuntime) -> Result<(), Fail> {
     let alloc = rt.alloc();

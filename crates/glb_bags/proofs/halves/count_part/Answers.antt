@@ -8,7 +8,7 @@ pub returns : goal.returns
 returns g c =
     let size =
     AllWhole-size (g.P.Program.children c.args._program.now) c.args.part.now.entries.items
-    c.requires.kept.whole in
+    c.requires.held.kept.whole in
     omega (
       arith,
       size,

@@ -11,7 +11,7 @@ use Rattle.glb_bags.proofs.range_bag.expand_some.Goals as goal
 pub loop-done-preserved : goal.loop-done-preserved
 loop-done-preserved g c = record {
   within = omega arith;
-  kept = c.expand_last.ensures.kept;
+  held = c.expand_last.ensures.held;
   count = c.expand_last.ensures.count;
   so_far = batch_append _ _ _ _ _ _ _ _ _ _ _ c.loop-done.invariant.so_far
       (taken_last _ _ _ _ _ _ _ c.in-Ok.ensures.expanded);
@@ -25,7 +25,7 @@ returns-in-Err-clause-left g c =
         arith,
         c.in-Err.ensures.some,
         AllWhole-some children c.expand_last.new.entries.items
-            c.expand_last.ensures.kept.whole,
+            c.expand_last.ensures.held.kept.whole,
       ),
     )
 

@@ -1,15 +1,15 @@
 use Rattle.std.proofs.Common.{◌≡◌, ◌++◌, ◌∙◌, ap, ap₂, sym, subst, length}
 use Rattle.std.specs.List.Sorted.{IsPermutation}
-use Rattle.glb_bags.specs.Ranges.{all_items, IsKept}
+use Rattle.glb_bags.specs.Ranges.{all_items, IsHeld}
 use Rattle.glb_bags.proofs.range_bag.RangeBagBag.merge.Goals as goal
 
-pub merge_entries-requires-clause-other_kept : goal.merge_entries-requires-clause-other_kept
-merge_entries-requires-clause-other_kept g c =
+pub merge_entries-requires-clause-other_held : goal.merge_entries-requires-clause-other_held
+merge_entries-requires-clause-other_held g c =
     let one =
     ap (λ v. v.0) c.other.view_is ∙ c.requires.fits.1.1 ∙ sym c.requires.fits.1.0
     ∙ sym (ap (λ v. v.0) c.self.view_is) in
     subst
-    (λ p. IsKept (g.P.Program.children p) c.other.inside.entries.items c.other.inside.made.items)
+    (λ p. IsHeld (g.P.Program.children p) c.other.inside.entries.items c.other.inside.made.items)
     one c.other.invariant.0
 
 pub merge_entries-requires-clause-more : goal.merge_entries-requires-clause-more
