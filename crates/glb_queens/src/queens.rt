@@ -66,6 +66,7 @@ impl Program for Queens {
 
     ghost value = { λ n columns. value_of n columns };
 
+    #[inline(always)]
     fn expand(&self, board: &Board, out: &mut Vec<Board>) -> Result<SatSum, NoMemory> {
         if board.rows() < self.n {
             push_boards(board, board.free_columns(self.n), out)?;
