@@ -7,7 +7,9 @@ use super::search::{Best, Search};
 use glb_laws::NoMemory;
 
 /// Raises the best by the item, and appends its children to those waiting, unless no item below it
-/// can be better.
+/// can be better. As a call of its own it would copy each item through memory, and a search took a
+/// third longer.
+#[inline(always)]
 pub(crate) fn visit<S: Search>(
     search: &S,
     item: S::Item,

@@ -92,6 +92,8 @@ impl Program for Knap {
 
     ghost value = { λ _ pack. value_of pack };
 
+    // Part of the loop of a search, as the cap is: a call costs as much as the work itself.
+    #[inline(always)]
     fn expand(&self, pack: &Pack, out: &mut Vec<Pack>) -> Result<Greatest, NoMemory> {
         let value = pack.worth();
         let next = pack.next as usize;
@@ -107,6 +109,7 @@ impl Program for Knap {
 impl Search for Knap {
     ghost cap_of = { cap_of };
 
+    #[inline(always)]
     fn cap(&self, pack: &Pack) -> u64 {
         let value = pack.worth();
         let next = pack.next as usize;

@@ -49,6 +49,7 @@ impl Pack {
     }
 
     /// Appends the pack that leaves a line out, and the one that takes it, where it fits.
+    #[inline(always)]
     pub(crate) fn push_below(
         &self,
         line: &Line,

@@ -66,6 +66,7 @@ impl Program for Queens {
 
     ghost value = { λ n columns. value_of n columns };
 
+    // Part of the loop of a bag, which as a call takes half as long again.
     #[inline(always)]
     fn expand(&self, board: &Board, out: &mut Vec<Board>) -> Result<SatSum, NoMemory> {
         if board.rows() < self.n {
