@@ -1,5 +1,5 @@
 -- What contracts see of the shared object and of a place's berth, and what a call says of a berth.
-use Rattle.std.specs.Prelude.{◌≡◌, ℕ, ◌+◌, ◌-◌, ◌^◌, ◌<◌, Option, Some, List, [], length, get_or, min, cond, nat_lt}
+use Rattle.std.specs.Prelude.{◌≡◌, ℕ, ◌+◌, ◌-◌, ◌^◌, ◌<◌, Option, Some, None, List, [], length, get_or, min, cond, nat_lt}
 use Rattle.atomic_table.specs.Seated.{TableId}
 use Rattle.glb_cube.specs.Lines.{Cube}
 use Rattle.glb_stats.specs.declared.counters.Counters.{Counters}
@@ -19,12 +19,14 @@ pub record CellsView (Q I : Type 0) : Type 0 where
   pub lines : Cube
   pub bags : List (List I)
 
--- a berth: its object, and what its seat there knows; how many steps on words it made, and the word
--- that the last one found; the place's state and counters; how often it looked
+-- a berth: its object, and what its seat there knows; the number of the edge whose slot it holds,
+-- if it holds one; how many steps on words it made, and the word that the last one found; the
+-- place's state and counters; how often it looked
 pub record BerthView (Q I : Type 0) : Type 0 where
   pub object : TableId
   pub program : Option Q
   pub kept : Record I
+  pub slot : Option ℕ
   pub steps : ℕ
   pub found : ℕ
   pub state : PlaceState
@@ -59,12 +61,17 @@ module _ {Q I : Type 0} where
   setup_of_cells c = setup_for c.lines c.params (bag_of c)
 
   -- the berth is one of the object
-  pub record IsOf (c : CellsView Q I) (b : BerthView Q I) : Type 0 where
+  pub record Belongs (c : CellsView Q I) (b : BerthView Q I) : Type 0 where
     pub object : b.object ≡ c.object
     pub program : b.program ≡ Some c.program
     pub lines : b.kept.lines ≡ c.lines
     pub params : b.kept.params ≡ c.params
     pub within : b.kept.place < c.lines.places
+
+  -- and holds no slot: one that holds a slot between two calls is not free for each call
+  pub record IsOf (c : CellsView Q I) (b : BerthView Q I) : Type 0 where
+    pub here : Belongs c b
+    pub free : b.slot ≡ None
 
   -- it is that of the place p at the start
   pub record IsFirstBerth (c : CellsView Q I) (p : ℕ) (b : BerthView Q I) : Type 0 where
@@ -78,9 +85,10 @@ module _ {Q I : Type 0} where
     pub each : (p : ℕ) (d : BerthView Q I) → p < length bs
         → IsOf c (get_or bs p d) × ((get_or bs p d).kept.place ≡ p)
 
-  -- the berth made so many steps on words
+  -- the berth made so many steps on words, and holds the slot that it held
   pub record Makes (n : ℕ) (old new : BerthView Q I) : Type 0 where
     pub steps : new.steps ≡ old.steps + n
+    pub slot : new.slot ≡ old.slot
     pub looks : new.looks ≡ old.looks
 
   -- by so many steps its record moved by this row, and its bag has as many items as before

@@ -135,9 +135,10 @@ module _ {B Q I : Type 0} (Γ : Fixed B Q I) where
       × Follows s h None
       (with_slot s id e (gift_word (knows r.own n)) maybe.none (begun_on e xs (edge_word s e) r)))
 
+  -- whatever of the part was known when the slot was taken
   abbrev pub HandFollows : Type 0
   HandFollows = AtEdges
-      (λ s h id e n r. (part : B) (rest : List I) → r.hand ≡ Some (e, Γ.items part)
+      (λ s h id e n r. (xs : List I) (part : B) (rest : List I) → r.hand ≡ Some (e, xs)
       → May r.own (event.Give n.victim n.thief n.kind) → Γ.fits part r.program
       → 0 < length (Γ.items part) → 0 < length rest
       → IsPermutation r.own.local.bag (Γ.items part ++ rest)

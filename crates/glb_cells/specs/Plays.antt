@@ -64,6 +64,11 @@ module _ {I : Type 0} where
   abbrev pub read_live : ℕ → Record I → Record I
   read_live n r = cond (n == 0) (over_row r) r
 
+-- the slot of the edge in hand, if there is one
+abbrev pub slots_in : {B I : Type 0} → Option (ℕ × List I) → List (ℕ × Option B)
+slots_in None = []
+slots_in (Some x) = (x.0, None) ∷ []
+
 abbrev pub no_name : EdgeName
 no_name = record { kind = kind.Steal; thief = 0; victim = 0 }
 
@@ -131,17 +136,27 @@ module _ {Q I : Type 0} where
   abbrev pub settled_on : ℕ → ℕ → List I → List I → View Q I → View Q I
   settled_on k done taken rest r = after_step k (batch_row (k + done) taken rest r.own) r
 
-  -- no part is being put in or taken out
+  -- no part is being put in or taken out, and no slot is held
   abbrev pub IsFree : View Q I → Type 0
   IsFree r = r.hand ≡ None
 
-  -- the view is one place's with this fact, and the seat holds these slots
-  abbrev pub ReadsWith : {B : Type 0} → List (ℕ × Option B) → Me (Option B) (List (View Q I))
-      → (View Q I → Type 0) → Type 0
-  ReadsWith slots me fact = (r : View Q I) × (me ≡ (r ∷ [], slots)) × fact r
+  -- The slots that a seat with this view holds between two calls: that of the edge in hand. It is
+  -- empty, for a part goes in or comes out within one call.
+  abbrev pub slots_of : {B : Type 0} → View Q I → List (ℕ × Option B)
+  slots_of r = slots_in r.hand
 
+  -- the view is one place's with this fact, and the seat holds the slots that the view tells
   abbrev pub Reads : {B : Type 0} → Me (Option B) (List (View Q I)) → (View Q I → Type 0) → Type 0
-  Reads me fact = ReadsWith [] me fact
+  Reads me fact = (r : View Q I) × (me ≡ (r ∷ [], slots_of r)) × fact r
+
+-- a list cut in its first member and the rest
+abbrev pub first_of : {A : Type 0} → List A → List A
+first_of [] = []
+first_of (x ∷ xs) = x ∷ []
+
+abbrev pub rest_of : {A : Type 0} → List A → List A
+rest_of [] = []
+rest_of (x ∷ xs) = xs
 
 -- it holds of the first, if there is one
 abbrev pub OnFirst : {A : Type 0} → (A → Type 0) → List A → Type 0
@@ -218,7 +233,7 @@ module _ {B Q I : Type 0} where
       Stepped k (λ r. r.own) (λ r. Some (st.word - 3, xs)) ((st.word - 3, None) ∷ m.1) m m'
 
   abbrev pub Clears : Step (Option B) → Seated B Q I → ℕ → Seated B Q I → Type 0
-  Clears st m k m' = Stepped k (λ r. r.own) (λ r. None) [] m m'
+  Clears st m k m' = Stepped k (λ r. r.own) (λ r. None) (rest_of m.1) m m'
 
   -- by moves that took some items, as many as were added, the bag became this list
   module _ {V : Type 0} (children : Q → I → List I) (value : Q → I → V) (combine : V → V → V)
@@ -226,25 +241,26 @@ module _ {B Q I : Type 0} where
     abbrev pub Settles : List I → List V → Step (Option B) → Seated B Q I → ℕ → Seated B Q I
         → Type 0
     Settles rest gains st m k m' =
-        (r : View Q I) × (taken : List I) × (m ≡ (r ∷ [], []))
+        (r : View Q I) × (taken : List I) × (m.0 ≡ r ∷ [])
         × Moves (children r.program) r.own.local.bag taken rest × (length taken ≡ st.first)
         × (gains ≡ combined (value r.program) combine unit taken ∷ [])
-        × Moved k (batch_row (k + st.first) taken rest) (r ∷ [], []) m'
+        × Moved k (batch_row (k + st.first) taken rest) (r ∷ [], m.1) m'
         × (k + st.first < 2 ^ 64)
 
 module _ {B Q I : Type 0} (items : B → List I) where
   abbrev pub Hands : EdgeName → Step (Option B) → Seated B Q I → ℕ → Seated B Q I → Type 0
   Hands n st m k m' =
-      (r : View Q I) × (b : B) × (rest : List I) × (m ≡ (r ∷ [], (st.word - 3, Some b) ∷ []))
+      (r : View Q I) × (b : B) × (rest : List I)
+      × (m ≡ (r ∷ [], (st.word - 3, Some b) ∷ rest_of m.1))
       × IsPermutation r.own.local.bag (items b ++ rest) × (0 < length rest)
-      × Stepped k (λ x. gave_at n (items b) rest x.own) (λ x. None) [] (r ∷ [], []) m'
+      × Stepped k (λ x. gave_at n (items b) rest x.own) (λ x. None) (rest_of m.1) (r ∷ [], m.1) m'
 
   abbrev pub Takes : (B → Q → Type 0) → EdgeName → Step (Option B) → Seated B Q I → ℕ → Seated B Q I
       → Type 0
   Takes fits n st m k m' =
-      (r : View Q I) × (b : B) × (m ≡ (r ∷ [], [])) × fits b r.program × (0 < length (items b))
+      (r : View Q I) × (b : B) × (m.0 ≡ r ∷ []) × fits b r.program × (0 < length (items b))
       × Stepped k (λ x. took_at n (items b) (items b ++ x.own.local.bag) x.own)
-      (λ x. Some (st.word - 3, items b)) ((st.word - 3, Some b) ∷ []) (r ∷ [], []) m'
+      (λ x. Some (st.word - 3, items b)) ((st.word - 3, Some b) ∷ m.1) (r ∷ [], m.1) m'
 
 -- the seat with the view r made one more step and keeps the word that it found
 abbrev pub IsCounted : {B Q I : Type 0} → ℕ → View Q I → Seated B Q I → Type 0
@@ -258,12 +274,3 @@ abbrev pub IsOneStep : {B Q I : Type 0}
 IsOneStep {B = B} {Q = Q} {I = I} play =
     (st : Step (Option B)) (m m' : Seated B Q I) (k : ℕ) (r : View Q I) → m.0 ≡ r ∷ []
     → play st m k m' → IsCounted k r m'
-
--- a list cut in its first member and the rest
-abbrev pub first_of : {A : Type 0} → List A → List A
-first_of [] = []
-first_of (x ∷ xs) = x ∷ []
-
-abbrev pub rest_of : {A : Type 0} → List A → List A
-rest_of [] = []
-rest_of (x ∷ xs) = xs

@@ -109,7 +109,8 @@ module _ {B Q I : Type 0} (Γ : Fixed B Q I) where
     pub lines : setup_in r.own ≡ plain Γ.lines
     pub limit : r.own.params.limit ≡ Γ.limit
 
-  -- the part that goes or came is in the bag
+  -- The part that goes or came is in the bag. Where a slot was taken and no part is known yet, the
+  -- hand has no items, and this holds of each bag.
   abbrev pub Holds : View Q I → Type 0
   Holds r =
       (e : ℕ) (xs : List I) → r.hand ≡ Some (e, xs)

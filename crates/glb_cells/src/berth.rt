@@ -6,7 +6,7 @@ ghost use Rattle.glb_place.specs.Looks.{LooksAt, LooksAtLive, LooksAtStop};
 ghost use Rattle.glb_core.specs.Counters.{counters_of};
 ghost use Rattle.glb_cells.specs.Looking.{looks_of};
 ghost use Rattle.glb_cells.specs.Berths.{IsStateOf};
-ghost use Rattle.glb_cells.specs.inner.Keeping.{IsKept, first_state, no_counters, table_of};
+ghost use Rattle.glb_cells.specs.inner.Keeping.{IsKept, edge_in, first_state, no_counters, table_of};
 
 use super::looks::LookCounts;
 use super::rule::PlaceSeat;
@@ -92,7 +92,7 @@ pub(crate) fn berth_at_start<P: Program, B: Bag<P>>(
         (table_of looks) }
     ensures object { result.object ≡ seat.table_id }
     ensures view { (r : _) → seat.me.0 ≡ r ∷ [] → (result.program ≡ Some r.program)
-        × (result.kept ≡ r.own) × (result.steps ≡ r.steps) }
+        × (result.kept ≡ r.own) × (result.steps ≡ r.steps) × (result.slot ≡ edge_in r.hand) }
 {
     Berth {
         seat,

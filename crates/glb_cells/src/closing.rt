@@ -1,5 +1,5 @@
 //! The end of the shared object, when all berths have come back.
-ghost use Rattle.std.specs.Prelude.{◌≡◌, ◌<◌, [], ◌∷◌, length, map, All};
+ghost use Rattle.std.specs.Prelude.{◌≡◌, ◌<◌, [], ◌∷◌, length, map, All, None};
 ghost use Rattle.std.specs.Mem.Slots.{IsFull};
 ghost use Rattle.glb_rules.specs.Joins.{join_to};
 ghost use Rattle.glb_core.specs.Counters.{all_awake, all_degrees};
@@ -41,7 +41,7 @@ fn gather_all<P: Program, B: Bag<P>>(
     mut berths: Vec<Berth<P, B>>,
 ) -> PlaceSeat<P, B, P::Item>
     requires table { (0 < cells.now.table_id.words) × (0 < length berths.items) }
-    requires berths { All (λ b. b.object ≡ cells.now.table_id) berths.items }
+    requires berths { All (λ b. (b.object ≡ cells.now.table_id) × (b.slot ≡ None)) berths.items }
     ensures table { result.table_id ≡ cells.now.table_id }
     ensures views { map (λ r. r.own) result.me.0 ≡ map (λ b. b.kept) berths.items }
 {
@@ -54,8 +54,9 @@ fn gather_all<P: Program, B: Bag<P>>(
     all
 }
 
-/// The seat of a berth, with its one view.
+/// The seat of a berth that holds no slot, with its one view.
 fn seat_of<P: Program, B: Bag<P>>(berth: Berth<P, B>) -> PlaceSeat<P, B, P::Item>
+    requires free { berth.slot ≡ None }
     ensures table { result.table_id ≡ berth.object }
     ensures view { map (λ r. r.own) result.me.0 ≡ berth.kept ∷ [] }
     ensures free { result.me.1 ≡ [] }

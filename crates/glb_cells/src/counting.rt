@@ -6,7 +6,7 @@ ghost use Rattle.glb_rules.specs.declared.kinds.Phase.TheVariants as phases;
 ghost use Rattle.glb_place.specs.Records.{May};
 ghost use Rattle.glb_place.specs.Rows.{mint_row, burn_row, sleep_row, halt_row, halted_row};
 ghost use Rattle.glb_cells.specs.Plays.{read_live};
-ghost use Rattle.glb_cells.specs.Berths.{IsOf, Moved};
+ghost use Rattle.glb_cells.specs.Berths.{Belongs, Moved};
 
 use super::berth::Berth;
 use super::cells::Cells;
@@ -18,9 +18,9 @@ use glb_place::counts::count_sleep;
 impl<P: Program, B: Bag<P>> Cells<P, B> {
     /// The place takes a credit for a part that it is going to give.
     pub fn mint(&self, berth: &mut Berth<P, B>)
-        requires here { IsOf self.now berth.old }
+        requires here { Belongs self.now berth.old }
         requires may { May berth.old.kept (event.Mint berth.old.kept.place) }
-        ensures here { IsOf self.now berth.new }
+        ensures here { Belongs self.now berth.new }
         ensures moved { Moved 1 mint_row berth.old berth.new }
     {
         steps::mint(&self.table.shared, &mut berth.seat);
@@ -29,9 +29,9 @@ impl<P: Program, B: Bag<P>> Cells<P, B> {
 
     /// The place gives back one of its two credits.
     pub fn burn(&self, berth: &mut Berth<P, B>)
-        requires here { IsOf self.now berth.old }
+        requires here { Belongs self.now berth.old }
         requires may { May berth.old.kept (event.Burn berth.old.kept.place) }
-        ensures here { IsOf self.now berth.new }
+        ensures here { Belongs self.now berth.new }
         ensures moved { Moved 1 burn_row berth.old berth.new }
     {
         steps::burn(&self.table.shared, &mut berth.seat);
@@ -40,9 +40,9 @@ impl<P: Program, B: Bag<P>> Cells<P, B> {
 
     /// The place gives its credit back and falls asleep. True exactly where live was 1.
     pub fn sleep(&self, berth: &mut Berth<P, B>) -> bool
-        requires here { IsOf self.now berth.old }
+        requires here { Belongs self.now berth.old }
         requires may { May berth.old.kept (event.Sleep berth.old.kept.place) }
-        ensures here { IsOf self.now berth.new }
+        ensures here { Belongs self.now berth.new }
         ensures moved { Moved 1 sleep_row berth.old berth.new }
         ensures found { result ≡ (berth.new.found == 1) }
     {
@@ -54,9 +54,9 @@ impl<P: Program, B: Bag<P>> Cells<P, B> {
 
     /// True exactly where live reads 0. The place then leaves.
     pub fn over(&self, berth: &mut Berth<P, B>) -> bool
-        requires here { IsOf self.now berth.old }
+        requires here { Belongs self.now berth.old }
         requires going { berth.old.kept.local.phase ≢ phases.Gone }
-        ensures here { IsOf self.now berth.new }
+        ensures here { Belongs self.now berth.new }
         ensures moved { Moved 1 (read_live berth.new.found) berth.old berth.new }
         ensures found { result ≡ (berth.new.found == 0) }
     {
@@ -67,9 +67,9 @@ impl<P: Program, B: Bag<P>> Cells<P, B> {
 
     /// The code that stop reads. Where it is not 0, the place leaves.
     pub fn halted(&self, berth: &mut Berth<P, B>) -> u64
-        requires here { IsOf self.now berth.old }
+        requires here { Belongs self.now berth.old }
         requires going { berth.old.kept.local.phase ≢ phases.Gone }
-        ensures here { IsOf self.now berth.new }
+        ensures here { Belongs self.now berth.new }
         ensures moved { Moved 1 (halted_row result) berth.old berth.new }
         ensures found { result ≡ berth.new.found }
         ensures least { berth.old.kept.code ≤ result }
@@ -81,11 +81,11 @@ impl<P: Program, B: Bag<P>> Cells<P, B> {
 
     /// Raises stop to this code.
     pub fn halt(&self, berth: &mut Berth<P, B>, code: u64)
-        requires here { IsOf self.now berth.old }
+        requires here { Belongs self.now berth.old }
         requires going { berth.old.kept.local.phase ≢ phases.Gone }
         requires code { (code ≡ 1) ⊎ (code ≡ 2) }
         requires cause { code ≡ 1 → berth.old.kept.params.limit < berth.old.kept.last }
-        ensures here { IsOf self.now berth.new }
+        ensures here { Belongs self.now berth.new }
         ensures moved { Moved 1 (halt_row code) berth.old berth.new }
     {
         steps::halt(&self.table.shared, &mut berth.seat, code);

@@ -10,7 +10,7 @@ ghost use Rattle.glb_place.specs.Records.{May};
 ghost use Rattle.glb_place.specs.Rows.{ask_row, deny_row, shrug_row, known_row};
 ghost use Rattle.glb_place.specs.Calls.{IsOwn, MayFind, look_row};
 ghost use Rattle.glb_cells.specs.Words.{read};
-ghost use Rattle.glb_cells.specs.Berths.{IsOf, Moved};
+ghost use Rattle.glb_cells.specs.Berths.{Belongs, IsOf, Moved};
 
 use super::berth::Berth;
 use super::cells::Cells;
@@ -67,9 +67,9 @@ impl<P: Program, B: Bag<P>> Cells<P, B> {
     }
 
     fn look_in(&self, berth: &mut Berth<P, B>, other: u32, kind: Kind) -> Edge
-        requires here { IsOf self.now berth.old }
+        requires here { Belongs self.now berth.old }
         requires own { IsOwn berth.old.kept other kind sides.Inward }
-        ensures here { IsOf self.now berth.new }
+        ensures here { Belongs self.now berth.new }
         ensures moved { Moved 1 (look_row other kind sides.Inward result) berth.old berth.new }
         ensures found { result ≡ read berth.new.found }
         ensures possible { MayFind berth.old.kept other kind sides.Inward result }
@@ -88,9 +88,9 @@ impl<P: Program, B: Bag<P>> Cells<P, B> {
     }
 
     fn look_out(&self, berth: &mut Berth<P, B>, other: u32, kind: Kind) -> Edge
-        requires here { IsOf self.now berth.old }
+        requires here { Belongs self.now berth.old }
         requires own { IsOwn berth.old.kept other kind sides.Outward }
-        ensures here { IsOf self.now berth.new }
+        ensures here { Belongs self.now berth.new }
         ensures moved { Moved 1 (look_row other kind sides.Outward result) berth.old berth.new }
         ensures found { result ≡ read berth.new.found }
         ensures possible { MayFind berth.old.kept other kind sides.Outward result }
@@ -110,9 +110,9 @@ impl<P: Program, B: Bag<P>> Cells<P, B> {
 
     /// The edge as its word reads.
     pub fn look(&self, berth: &mut Berth<P, B>, other: u32, kind: Kind, side: Side) -> Edge
-        requires here { IsOf self.now berth.old }
+        requires here { Belongs self.now berth.old }
         requires own { IsOwn berth.old.kept other kind side }
-        ensures here { IsOf self.now berth.new }
+        ensures here { Belongs self.now berth.new }
         ensures moved { Moved 1 (look_row other kind side result) berth.old berth.new }
         ensures found { result ≡ read berth.new.found }
         ensures possible { MayFind berth.old.kept other kind side result }

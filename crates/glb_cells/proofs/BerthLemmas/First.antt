@@ -169,11 +169,14 @@ module _ {B Q I : Type 0} (items : B → List I) (fits : B → Q → Type 0) (ch
         → HasFirst Γ id p b → IsFirstBerth (cells_view items id key) p b
     first_berth id p b l h = record {
       here = record {
-        object = h.object;
-        program = h.program;
-        lines = ap (λ x. x.lines) h.kept;
-        params = ap (λ x. x.params) h.kept;
-        within = subst (λ x. x < key.lines.value.places) (sym (ap (λ x. x.place) h.kept)) l;
+        here = record {
+          object = h.object;
+          program = h.program;
+          lines = ap (λ x. x.lines) h.kept;
+          params = ap (λ x. x.params) h.kept;
+          within = subst (λ x. x < key.lines.value.places) (sym (ap (λ x. x.place) h.kept)) l;
+        };
+        free = h.free;
       };
       first = subst (λ x. IsFirst key.lines.value key.params p
           (bag_at items fits children key.bags.items p) x) (sym h.kept) (is_first p);

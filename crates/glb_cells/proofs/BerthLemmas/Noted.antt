@@ -34,7 +34,6 @@ module _ {B Q I : Type 0} (me : Seated B Q I) (a : PlaceState) (c : Counters) (h
   with_looks looks' room = record {
     view = o.view;
     me_is = o.me_is;
-    free = o.free;
     beside = record {
       state = o.beside.state;
       counters = o.beside.counters;

@@ -1,5 +1,5 @@
 -- What a call knows of the berth that it was given, and what it says of it afterwards.
-use Rattle.std.proofs.Common.{◌≡◌, ℕ, ◌+◌, ◌<◌, ◌^◌, Bool, true, false, List, [], ◌∷◌, map, Option, Some, None, sym, ap, ◌∙◌, subst}
+use Rattle.std.proofs.Common.{◌≡◌, ℕ, ◌+◌, ◌<◌, ◌^◌, Bool, true, false, List, [], ◌∷◌, map, Option, Some, None, refl, sym, ap, ◌∙◌, subst}
 use mathlib.Core.Option.{some}
 use lib.ListN.{get_elem?}
 use Rattle.atomic_table.specs.Seated.{TableId}
@@ -20,9 +20,10 @@ use Rattle.glb_cells.specs.declared.view.View.{View}
 use Rattle.glb_cells.specs.declared.key.Start.{Start}
 use Rattle.glb_cells.specs.Looking.{LookTable}
 use Rattle.glb_cells.specs.Starts.{names_from}
-use Rattle.glb_cells.specs.Plays.{Seated}
-use Rattle.glb_cells.specs.Berths.{CellsView, BerthView, IsOf, Makes, Moved}
-use Rattle.glb_cells.specs.inner.Keeping.{cells_view, berth_view, IsKept}
+use Rattle.glb_cells.specs.Plays.{Seated, IsFree, slots_of}
+use Rattle.glb_cells.specs.Berths.{CellsView, BerthView, Belongs, IsOf, Makes, Moved}
+use Rattle.glb_cells.specs.inner.Keeping.{cells_view, berth_view, edge_in, slot_in, IsKept}
+use Rattle.glb_cells.proofs.StepLemmas.Reading.{none_some}
 
 -- whether an edge is there is told by the lifelines alone
 pub there_at : (c d : Cube) → c ≡ d → (q p : Params) (f g : ℕ → Bool) (k : Kind) (t v : ℕ)
@@ -46,10 +47,21 @@ pub record Numbered {B Q : Type 0} (id : TableId) (key : Start Q B) (edge : ℕ)
   pub name : get_elem? (names_from key) edge ≡ some n
 
 -- the views after a step that turns each by this function
-pub turned : {B Q I : Type 0} (f : View Q I → View Q I) (me me' : Seated B Q I) (r : View Q I)
-    → me ≡ (r ∷ [], [])
-    → me' ≡ (map f me.0, me.1) → me' ≡ (f r ∷ [], [])
+pub turned : {B Q I : Type 0} {slots : List (ℕ × Option B)} (f : View Q I → View Q I)
+    (me me' : Seated B Q I) (r : View Q I)
+    → me ≡ (r ∷ [], slots)
+    → me' ≡ (map f me.0, me.1) → me' ≡ (f r ∷ [], slots)
 turned f me me' r was is = is ∙ ap (λ (m : Seated _ _ _). (map f m.0, m.1)) was
+
+-- a berth that holds no slot has a free view
+none_in : {I : Type 0} (x : Option (ℕ × List I)) → edge_in x ≡ None → x ≡ None
+none_in None e = refl
+none_in (Some x) e = absurd (none_some (Some x.0) x.0 e refl)
+
+pub is_free : {B Q I : Type 0} {me : Seated B Q I} {r : View Q I} → me ≡ (r ∷ [], slots_of r)
+    → slot_in me.0 ≡ None → IsFree r
+is_free {B = B} {Q = Q} {I = I} {r = r} is none = none_in r.hand
+    (ap (λ (m : Seated B Q I). slot_in m.0) (sym is) ∙ none)
 
 pub numbered : {B Q I : Type 0} (items : B → List I) (key : Start Q B) (id : TableId)
     (self : CellsView Q I)
@@ -73,7 +85,7 @@ module _ {B Q I : Type 0} (self : CellsView Q I) (me : Seated B Q I) (a : PlaceS
     (held : List Bool)
     (looks : LookTable) (sid : TableId) (old : BerthView Q I)
     (old_is : berth_view sid me.0 a c looks ≡ old)
-    (o : IsKept me a c held looks) (here : IsOf self old) where
+    (o : IsKept me a c held looks) (here : Belongs self old) where
   abbrev r : View Q I
   r = o.view
 
@@ -128,7 +140,7 @@ module _ {B Q I : Type 0} (self : CellsView Q I) (me : Seated B Q I) (a : PlaceS
 
   -- a step after which the seat has the view r'
   module _ (sid' : TableId) (sid_is : sid' ≡ sid) (me' : Seated B Q I) (r' : View Q I)
-      (is : me' ≡ (r' ∷ [], []))
+      {slots : List (ℕ × Option B)} (is : me' ≡ (r' ∷ [], slots))
       (a' : PlaceState) (c' : Counters) where
     abbrev new : BerthView Q I
     new = berth_view sid' me'.0 a' c' looks
@@ -138,8 +150,8 @@ module _ {B Q I : Type 0} (self : CellsView Q I) (me : Seated B Q I) (a : PlaceS
 
     pub still_of : r'.program ≡ r.program → r'.own.lines ≡ r.own.lines
         → r'.own.params ≡ r.own.params
-        → r'.own.place ≡ r.own.place → IsOf self new
-    still_of q l p h = subst (IsOf self) told (record {
+        → r'.own.place ≡ r.own.place → Belongs self new
+    still_of q l p h = subst (Belongs self) told (record {
       object = sid_is ∙ object_is;
       program = ap Some (q ∙ program_is);
       lines = l ∙ lines_are;
@@ -148,16 +160,27 @@ module _ {B Q I : Type 0} (self : CellsView Q I) (me : Seated B Q I) (a : PlaceS
           (sym (h ∙ sym (ap (λ (x : Record I). x.place) kept_is))) here.within;
     })
 
-    pub makes : (steps : ℕ) → r'.steps ≡ r.steps + steps → Makes steps old new
-    makes steps e = subst (Makes steps old) told (record {
+    -- and it is free where its view is
+    pub still_free : r'.program ≡ r.program → r'.own.lines ≡ r.own.lines
+        → r'.own.params ≡ r.own.params → r'.own.place ≡ r.own.place → IsFree r' → IsOf self new
+    still_free q l p h free = record {
+      here = still_of q l p h;
+      free = sym (ap (λ b. b.slot) told) ∙ ap edge_in free;
+    }
+
+    pub makes : (steps : ℕ) → r'.steps ≡ r.steps + steps → r'.hand ≡ r.hand
+        → Makes steps old new
+    makes steps e hand = subst (Makes steps old) told (record {
       steps = e ∙ ap (λ b. b.steps + steps) shown;
+      slot = ap edge_in hand ∙ ap (λ b. b.slot) shown;
       looks = ap (λ b. b.looks) shown;
     })
 
     pub moved : (steps : ℕ) (row : Record I → Record I) → r'.own ≡ row r.own
-        → r'.steps ≡ r.steps + steps → a'.size ≡ a.size → Moved steps row old new
-    moved steps row own e size = record {
-      makes = makes steps e;
+        → r'.steps ≡ r.steps + steps → a'.size ≡ a.size → r'.hand ≡ r.hand
+        → Moved steps row old new
+    moved steps row own e size hand = record {
+      makes = makes steps e hand;
       kept = sym (ap (λ b. b.kept) told) ∙ own ∙ ap row (sym kept_is);
       size = size ∙ ap (λ b. b.state.size) shown;
     }

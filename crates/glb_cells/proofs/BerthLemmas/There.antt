@@ -1,5 +1,5 @@
 -- The edges that a call speaks of are there.
-use Rattle.std.proofs.Common.{Bool, false, not, get_or, List, [], ◌∷◌, cond, refl, ap, ◌≡◌, ◌≢◌, ◌⊎◌, inl, inr, ⊎_elim, ℕ, true, sym, ◌∙◌, subst}
+use Rattle.std.proofs.Common.{Bool, false, not, get_or, List, [], ◌∷◌, Option, cond, refl, ap, ◌≡◌, ◌≢◌, ◌⊎◌, inl, inr, ⊎_elim, ℕ, true, sym, ◌∙◌, subst}
 use Rattle.glb_rules.specs.World.{Asked, Refused, has_edge}
 use Rattle.glb_rules.specs.declared.event.Event.TheVariants as event
 use Rattle.glb_rules.specs.declared.kinds.Kind.{Kind}
@@ -83,8 +83,8 @@ module _ {I : Type 0} (r : Record I) (listed : Listed r) where
               (sym at) (h t (subst (λ q. has_edge (setup_in r) kind.Line t q ≡ true) at y))
 
 -- a seat has one view
-pub one_view : {B Q I : Type 0} (me : Seated B Q I) (r r' : View Q I) → me ≡ (r ∷ [], [])
-    → me ≡ (r' ∷ [], []) → r ≡ r'
+pub one_view : {B Q I : Type 0} {c d : List (ℕ × Option B)} (me : Seated B Q I) (r r' : View Q I)
+    → me ≡ (r ∷ [], c) → me ≡ (r' ∷ [], d) → r ≡ r'
 one_view me r r' a b = let e : r ∷ [] ≡ r' ∷ [] = ap (λ (m : Seated _ _ _). m.0) (sym a ∙ b) in cc
 
 pub not_true : (b : Bool) → not b ≡ true → b ≡ false

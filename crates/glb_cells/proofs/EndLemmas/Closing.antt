@@ -1,5 +1,5 @@
 -- What the close of the shared object promises, from what the end of its table tells.
-use Rattle.std.proofs.Common.{◌≡◌, ℕ, zero, suc, ◌<◌, ◌≤◌, ◌^◌, List, [], ◌∷◌, map, length, get_or, refl, sym, ap, ◌∙◌, subst, arith}
+use Rattle.std.proofs.Common.{◌≡◌, ℕ, zero, suc, ◌<◌, ◌≤◌, ◌^◌, List, [], ◌∷◌, map, length, get_or, None, refl, sym, ap, ◌∙◌, subst, arith}
 use mathlib.Core.Option.{some}
 use lib.ListN.{get_elem?}
 use Rattle.glb_rules.specs.Joins.{join_to}
@@ -144,10 +144,12 @@ module _ {B Q I : Type 0} (items : B → List I) (key : Start Q B) (id : TableId
       let b = berth_at bs p d m in
       let of = (all.each p b.0 m).0 in (
         ap (λ (x : Record I). x.params) b.2 ∙ ap (λ (x : BerthView Q I). x.kept.params) (sym b.1)
-            ∙ of.params ∙ ap (λ (s : CellsView Q I). s.params) (sym self_is),
+            ∙ of.here.params ∙ ap (λ (s : CellsView Q I). s.params) (sym self_is),
         ap (λ (x : Record I). x.lines) b.2 ∙ ap (λ (x : BerthView Q I). x.kept.lines) (sym b.1)
-            ∙ of.lines ∙ ap (λ (s : CellsView Q I). s.lines) (sym self_is),
+            ∙ of.here.lines ∙ ap (λ (s : CellsView Q I). s.lines) (sym self_is),
       )
 
-  pub all_here : (p : ℕ) (d : BerthView Q I) → p < length bs → (get_or bs p d).object ≡ id
-  all_here p d l = (all.each p d l).0.object ∙ ap (λ (s : CellsView Q I). s.object) (sym self_is)
+  pub all_here : (p : ℕ) (d : BerthView Q I) → p < length bs
+      → ((get_or bs p d).object ≡ id) × ((get_or bs p d).slot ≡ None)
+  all_here p d l = let of = (all.each p d l).0 in
+      (of.here.object ∙ ap (λ (s : CellsView Q I). s.object) (sym self_is), of.free)

@@ -24,7 +24,7 @@ use Rattle.glb_cells.specs.Follows.{is_event}
 use Rattle.glb_cells.specs.declared.view.View.{View}
 use Rattle.glb_cells.specs.Words.{Cell, empty, wanted, denied, word_of, slot_of, cell_state, Out, In, read}
 use Rattle.glb_cells.specs.Shows.{part_of, Fixed, total, items_of, Apt, AptAt, Shows, Table, world_of}
-use Rattle.glb_cells.specs.Plays.{after_step, marked_at, asked_on, denied_on, looked_on, learnt_on, Asks, Denies, Looks, Learns}
+use Rattle.glb_cells.specs.Plays.{after_step, marked_at, asked_on, denied_on, looked_on, learnt_on, Asks, Denies, Looks, Learns, slots_of}
 use Rattle.glb_cells.proofs.StepLemmas.ListFacts.{matched, map_same}
 use Rattle.glb_cells.proofs.StepLemmas.Keeps.{Turn, edge_goes, edge_stays}
 use Rattle.glb_cells.proofs.StepLemmas.Reading.{word_at, none_some, read_face, state_reads, is_empty, in_asked, in_self, in_finds, out_finds, out_self, out_refused, still, newly, seen_here}
@@ -316,24 +316,24 @@ module _ {B Q I : Type 0} (Γ : Fixed B Q I) (s : Table Γ) (h : Shows Γ s) (id
 module _ {B Q I : Type 0} (Γ : Fixed B Q I) where
   pub asks : (slots id e : ℕ) (n : EdgeName) (r : View Q I) → get_elem? Γ.names e ≡ some n
       → r.hand ≡ None → May r.own (event.Ask n.thief n.victim n.kind)
-      → Allows (Shows Γ) slots id (r ∷ [], []) (e + 3) (λ _. 1)
-      (Asks n (step slots (e + 3) 1 0 maybe.none) (r ∷ [], []))
+      → Allows (Shows Γ) slots id (r ∷ [], slots_of r) (e + 3) (λ _. 1)
+      (Asks n (step slots (e + 3) 1 0 maybe.none) (r ∷ [], slots_of r))
   asks slots id e n r name free may s h len at lt =
       let g = ask_goes Γ s h id e n r at name free may in
-      (asked_on n 0 r ∷ [], keeps, tt, g.1.0, (g.0, λ i. (asked_on n (sym g.0 i) r ∷ [], [])))
+      (asked_on n 0 r ∷ [], keeps, tt, g.1.0, (g.0, λ i. (asked_on n (sym g.0 i) r ∷ [], slots_of r)))
 
   pub denies : (slots id e : ℕ) (n : EdgeName) (r : View Q I) → get_elem? Γ.names e ≡ some n
       → r.hand ≡ None → May r.own (event.Deny n.victim n.thief n.kind)
-      → Allows (Shows Γ) slots id (r ∷ [], []) (e + 3) (λ _. 2)
-      (Denies n (step slots (e + 3) 2 0 maybe.none) (r ∷ [], []))
+      → Allows (Shows Γ) slots id (r ∷ [], slots_of r) (e + 3) (λ _. 2)
+      (Denies n (step slots (e + 3) 2 0 maybe.none) (r ∷ [], slots_of r))
   denies slots id e n r name free may s h len at lt =
       let g = deny_goes Γ s h id e n r at name free may in
-      (denied_on n 1 r ∷ [], keeps, tt, g.1.0, (g.0, λ i. (denied_on n (sym g.0 i) r ∷ [], [])))
+      (denied_on n 1 r ∷ [], keeps, tt, g.1.0, (g.0, λ i. (denied_on n (sym g.0 i) r ∷ [], slots_of r)))
 
   pub looks : (slots id e : ℕ) (n : EdgeName) (r : View Q I) → get_elem? Γ.names e ≡ some n
       → n.victim ≡ r.own.place
-      → Allows (Shows Γ) slots id (r ∷ [], []) (e + 3) (λ k. k)
-      (Looks n (step slots (e + 3) 0 0 maybe.none) (r ∷ [], []))
+      → Allows (Shows Γ) slots id (r ∷ [], slots_of r) (e + 3) (λ k. k)
+      (Looks n (step slots (e + 3) 0 0 maybe.none) (r ∷ [], slots_of r))
   looks slots id e n r name victim s h len at lt =
       let d = reading Γ s h id e n r at name in (
         looked_on n (slice_index s.words (e + 3)) r ∷ [],
@@ -350,8 +350,8 @@ module _ {B Q I : Type 0} (Γ : Fixed B Q I) where
 
   pub learns : (slots id e : ℕ) (n : EdgeName) (r : View Q I) → get_elem? Γ.names e ≡ some n
       → n.thief ≡ r.own.place
-      → Allows (Shows Γ) slots id (r ∷ [], []) (e + 3) (λ k. k)
-      (Learns n (step slots (e + 3) 0 0 maybe.none) (r ∷ [], []))
+      → Allows (Shows Γ) slots id (r ∷ [], slots_of r) (e + 3) (λ k. k)
+      (Learns n (step slots (e + 3) 0 0 maybe.none) (r ∷ [], slots_of r))
   learns slots id e n r name thief s h len at lt =
       let d = reading Γ s h id e n r at name in (
         learnt_on n (slice_index s.words (e + 3)) r ∷ [],

@@ -1,5 +1,5 @@
 -- What each call owes to the table, at a view that is read.
-use Rattle.std.proofs.Common.{◌≡◌, ℕ, ◌+◌, ◌%◌, ◌<◌, List, [], ◌∷◌, max, length, None, Some, sym, ap, ◌∙◌, subst}
+use Rattle.std.proofs.Common.{◌≡◌, ℕ, ◌+◌, ◌%◌, ◌<◌, List, [], ◌∷◌, max, length, Option, None, Some, sym, ap, ◌∙◌, subst}
 use mathlib.Core.Option as maybe
 use mathlib.Core.Option.{some}
 use lib.ListN.{get_elem?}
@@ -12,7 +12,7 @@ use Rattle.glb_place.specs.Records.{May, knows}
 use Rattle.glb_place.specs.Calls.{HasMore}
 use Rattle.glb_cells.specs.declared.view.View.{View}
 use Rattle.glb_cells.specs.Shows.{Fixed, Shows}
-use Rattle.glb_cells.specs.Plays.{Seated, Reads, ReadsWith, Asks, Denies, Looks, Learns, GivesUp, Shrugs, Mints, Burns, Sleeps, Overs, Halts, Stops, Settles, Begins, Hands, Takes, Clears}
+use Rattle.glb_cells.specs.Plays.{Seated, Reads, slots_of, Asks, Denies, Looks, Learns, GivesUp, Shrugs, Mints, Burns, Sleeps, Overs, Halts, Stops, Settles, Begins, Hands, Takes, Clears}
 use Rattle.glb_cells.specs.inner.Ready.{MayAsk, MayDeny, MayShrug, MayTake, MayBegin, MayMint, MayBurn, MaySleep, IsHere, MayHalt, MaySettle}
 use Rattle.glb_cells.proofs.StepLemmas.Asking.{asks, denies, looks, learns}
 use Rattle.glb_cells.proofs.StepLemmas.Moving.{begins_to, hands_over, takes_it, clears}
@@ -20,10 +20,15 @@ use Rattle.glb_cells.proofs.StepLemmas.Counting.{mints, burns, sleeps, overs}
 use Rattle.glb_cells.proofs.StepLemmas.Stopping.{stops, halts, settles}
 use Rattle.glb_cells.proofs.StepLemmas.Shrugging.{gives_up, shrugs}
 
+-- within a call the view is one place's with this fact, and the seat holds these slots
+abbrev pub ReadsWith : {B Q I : Type 0} → List (ℕ × Option B) → Seated B Q I
+    → (View Q I → Type 0) → Type 0
+ReadsWith held me fact = (r : View _ _) × (me ≡ (r ∷ [], held)) × fact r
+
 module _ {B Q I : Type 0} (Γ : Fixed B Q I) where
   lift : (slots id w : ℕ) (f : ℕ → ℕ) (T : Seated B Q I → ℕ → Seated B Q I → Type 0) (F : View Q I
-      → Type 0) → ((r : View Q I) → F r → Allows (Shows Γ) slots id (r ∷ [], []) w f
-      (T (r ∷ [], [])))
+      → Type 0) → ((r : View Q I) → F r → Allows (Shows Γ) slots id (r ∷ [], slots_of r) w f
+      (T (r ∷ [], slots_of r)))
       → (me : Seated B Q I) → Reads me F → Allows (Shows Γ) slots id me w f (T me)
   lift slots id w f T F move me reads = subst (λ (m : Seated B Q I). Allows (Shows Γ) slots id m w f
       (T m)) (sym reads.1) (move reads.0 reads.2)
@@ -81,31 +86,31 @@ module _ {B Q I : Type 0} (Γ : Fixed B Q I) where
         (λ r x. takes_it Γ slots id e n r name x.0 x.1)
 
     -- what a giver's view says while the part is being put in
-    abbrev pub GivesNow : B → View Q I → Type 0
-    GivesNow part r = (r.hand ≡ Some (e, Γ.items part))
+    abbrev pub GivesNow : List I → B → View Q I → Type 0
+    GivesNow xs part r = (r.hand ≡ Some (e, xs))
         × May r.own (event.Give n.victim n.thief n.kind) × Γ.fits part r.program
         × (0 < length (Γ.items part)) × HasMore (Γ.items part) r.own
 
-    pub may_hand : (part : B) (me : Seated B Q I)
-        → ReadsWith ((e, Some part) ∷ []) me (GivesNow part)
+    pub may_hand : (xs : List I) (part : B) (others : List (ℕ × Option B)) (me : Seated B Q I)
+        → ReadsWith ((e, Some part) ∷ others) me (GivesNow xs part)
         → Allows (Shows Γ) slots id me (e + 3) (λ _. 5)
         (Hands Γ.items n (step slots (e + 3) 5 0 maybe.none) me)
-    may_hand part me reads =
+    may_hand xs part others me reads =
         let x = reads.2 in
         subst (λ (m : Seated B Q I). Allows (Shows Γ) slots id m (e + 3) (λ _. 5)
         (Hands Γ.items n (step slots (e + 3) 5 0 maybe.none) m)) (sym reads.1)
-        (hands_over Γ slots id e n part x.4.0 reads.0 name x.0 x.1 x.2 x.3 x.4.2 x.4.1)
+        (hands_over Γ slots id e n xs part x.4.0 others reads.0 name x.0 x.1 x.2 x.3 x.4.2 x.4.1)
 
-    pub may_clear : (xs : List I) (me : Seated B Q I)
-        → ReadsWith ((e, None) ∷ []) me (λ r. (r.hand ≡ Some (e, xs)) × (n.thief ≡ r.own.place)
+    pub may_clear : (xs : List I) (others : List (ℕ × Option B)) (me : Seated B Q I)
+        → ReadsWith ((e, None) ∷ others) me (λ r. (r.hand ≡ Some (e, xs)) × (n.thief ≡ r.own.place)
         × (knows r.own n ≡ seen.Idle))
         → Allows (Shows Γ) slots id me (e + 3) (λ _. 0)
         (Clears (step slots (e + 3) 0 0 maybe.none) me)
-    may_clear xs me reads =
+    may_clear xs others me reads =
         let x = reads.2 in
         subst (λ (m : Seated B Q I). Allows (Shows Γ) slots id m (e + 3) (λ _. 0)
         (Clears (step slots (e + 3) 0 0 maybe.none) m)) (sym reads.1)
-        (clears Γ slots id e n xs reads.0 name x.0 x.1 x.2)
+        (clears Γ slots id e n xs others reads.0 name x.0 x.1 x.2)
 
   module _ (slots id : ℕ) where
     pub may_mint : (me : Seated B Q I) → Reads me MayMint

@@ -19,8 +19,7 @@ module _ {B Q I : Type 0} where
 
 module _ {B Q I : Type 0} where
   -- by the one view that the seat has
-  pub counted_of : (m : Seated B Q I) (r r₀ : View Q I) (slots : List (ℕ × Option B)) → m.0 ≡ r ∷ []
-      → m ≡ (r₀ ∷ [], slots)
+  pub counted_of : (m : Seated B Q I) (r r₀ : View Q I) → m.0 ≡ r ∷ [] → m.0 ≡ r₀ ∷ []
       → (F : View Q I → Type 0) → F r₀ → F r
-  counted_of m r r₀ slots one is F f = let e : r₀ ∷ [] ≡ r ∷ [] =
-      ap (λ (x : Seated B Q I). x.0) (sym is) ∙ one in let q : r₀ ≡ r = cc in subst F q f
+  counted_of m r r₀ one is F f = let e : r₀ ∷ [] ≡ r ∷ [] = sym is ∙ one in
+      let q : r₀ ≡ r = cc in subst F q f

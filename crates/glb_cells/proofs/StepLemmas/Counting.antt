@@ -20,7 +20,7 @@ use Rattle.glb_place.specs.Rows.{over_row}
 use Rattle.glb_cells.specs.declared.view.View.{View}
 use Rattle.glb_cells.specs.Words.{word_of}
 use Rattle.glb_cells.specs.Shows.{Fixed, total, items_of, Shows, Table, world_of}
-use Rattle.glb_cells.specs.Plays.{after_step, minted_on, burnt_on, slept_on, ended_on, Mints, Burns, Sleeps, Overs}
+use Rattle.glb_cells.specs.Plays.{after_step, minted_on, burnt_on, slept_on, ended_on, Mints, Burns, Sleeps, Overs, slots_of}
 use Rattle.glb_cells.proofs.StepLemmas.Keeps.{Count, number_goes, number_stays}
 use Rattle.glb_cells.proofs.StepLemmas.Owning.{Mine, mine_of, owned}
 use Rattle.glb_cells.proofs.StepLemmas.Counts.{less_one, here, apt, lawful, within, live_word, shown_part, credited, same_count, sum_same, word_set}
@@ -187,8 +187,8 @@ module _ {B Q I : Type 0} (Γ : Fixed B Q I) (s : Table Γ) (h : Shows Γ s) (id
 
 module _ {B Q I : Type 0} (Γ : Fixed B Q I) where
   pub mints : (slots id : ℕ) (r : View Q I) → May r.own (event.Mint r.own.place)
-      → Allows (Shows Γ) slots id (r ∷ [], []) 0 (λ n. (n + 1) % 18446744073709551616)
-      (Mints (step slots 0 1 0 maybe.none) (r ∷ [], []))
+      → Allows (Shows Γ) slots id (r ∷ [], slots_of r) 0 (λ n. (n + 1) % 18446744073709551616)
+      (Mints (step slots 0 1 0 maybe.none) (r ∷ [], slots_of r))
   mints slots id r may s h len at lt = (
     minted_on (slice_index s.words 0) r ∷ [],
     keeps,
@@ -198,9 +198,9 @@ module _ {B Q I : Type 0} (Γ : Fixed B Q I) where
   )
 
   pub burns : (slots id : ℕ) (r : View Q I) → May r.own (event.Burn r.own.place)
-      → Allows (Shows Γ) slots id (r ∷ [], []) 0
+      → Allows (Shows Γ) slots id (r ∷ [], slots_of r) 0
       (λ n. (n + 18446744073709551615) % 18446744073709551616)
-      (Burns (step slots 0 1 0 maybe.none) (r ∷ [], []))
+      (Burns (step slots 0 1 0 maybe.none) (r ∷ [], slots_of r))
   burns slots id r may s h len at lt = (
     burnt_on (slice_index s.words 0) r ∷ [],
     keeps,
@@ -210,9 +210,9 @@ module _ {B Q I : Type 0} (Γ : Fixed B Q I) where
   )
 
   pub sleeps : (slots id : ℕ) (r : View Q I) → May r.own (event.Sleep r.own.place)
-      → Allows (Shows Γ) slots id (r ∷ [], []) 0
+      → Allows (Shows Γ) slots id (r ∷ [], slots_of r) 0
       (λ n. (n + 18446744073709551615) % 18446744073709551616)
-      (Sleeps (step slots 0 1 0 maybe.none) (r ∷ [], []))
+      (Sleeps (step slots 0 1 0 maybe.none) (r ∷ [], slots_of r))
   sleeps slots id r may s h len at lt = (
     slept_on (slice_index s.words 0) r ∷ [],
     keeps,
@@ -222,8 +222,8 @@ module _ {B Q I : Type 0} (Γ : Fixed B Q I) where
   )
 
   pub overs : (slots id : ℕ) (r : View Q I) → r.own.local.phase ≢ phase.Gone
-      → Allows (Shows Γ) slots id (r ∷ [], []) 0 (λ n. n)
-      (Overs (step slots 0 0 0 maybe.none) (r ∷ [], []))
+      → Allows (Shows Γ) slots id (r ∷ [], slots_of r) 0 (λ n. n)
+      (Overs (step slots 0 0 0 maybe.none) (r ∷ [], slots_of r))
   overs slots id r stays s h len at lt = (
     ended_on (slice_index s.words 0) r ∷ [],
     keeps,

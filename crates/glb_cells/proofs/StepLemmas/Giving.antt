@@ -128,8 +128,8 @@ module _ {B Q I : Type 0} (Γ : Fixed B Q I) (s : Table Γ) (h : Shows Γ s) (id
             × (world_of Γ (slot_set y maybe.none r') k ≡ world_of Γ s h)) (sym next) z,
       )
 
-  -- the event Give
-  pub hand_goes : (part : B) (rest : List I) → r.hand ≡ Some (e, Γ.items part)
+  -- the event Give, whatever of the part was known when its slot was taken
+  pub hand_goes : (held : List I) (part : B) (rest : List I) → r.hand ≡ Some (e, held)
       → May r.own (event.Give n.victim n.thief n.kind) → Γ.fits part r.program
       → 0 < length (Γ.items part) → 0 < length rest
       → IsPermutation r.own.local.bag (Γ.items part ++ rest)
@@ -138,7 +138,7 @@ module _ {B Q I : Type 0} (Γ : Fixed B Q I) (s : Table Γ) (h : Shows Γ s) (id
       × Step (Γ.children Γ.program) Γ.lines (world_of Γ s h) (event.Give n.victim n.thief n.kind)
       (world_of Γ (slot_set 5 (some (Some part))
       (handed_on n (slice_index s.words (e + 3)) (Γ.items part) rest r)) k)
-  hand_goes part rest busy may fits some_given some_left all =
+  hand_goes held part rest busy may fits some_given some_left all =
       let a : Apt Γ h.live h.stop h.cells r.own.place r = h.apt r.own.place r here in
       let o : Mine Γ.lines r.own (event.Give n.victim n.thief n.kind) =
       mine_of Γ r a.told (event.Give n.victim n.thief n.kind) may in
@@ -149,7 +149,7 @@ module _ {B Q I : Type 0} (Γ : Fixed B Q I) (s : Table Γ) (h : Shows Γ s) (id
       let b : Bool = sb.0 in
       let xs : List I = Γ.items part in
       let is : gift b ≡ m.0 = is_gift B b r.own.place n (knows r.own n) m.0 sb.1 (ae.inward o.by)
-      (ae.at_it xs busy) in
+      (ae.at_it held busy) in
       let was : get_elem? h.cells e ≡ some (gift b) = m.1 ∙ ap some (sym is) in
       let k : ℕ = slice_index s.words (e + 3) in
       let r' : View Q I = handed_on n k xs rest r in
@@ -177,7 +177,7 @@ module _ {B Q I : Type 0} (Γ : Fixed B Q I) (s : Table Γ) (h : Shows Γ s) (id
         };
         mine = elsewhere Γ r.own.place r r' e (λ j m apart other. knows_else r.own n seen.Loot m
             (names_apart Γ.names h.grounded.named.once e j n m name other apart))
-            (one_hand Γ r e xs busy) (no_hand Γ r' e refl);
+            (one_hand Γ r e held busy) (no_hand Γ r' e refl);
         here = λ x. record {
           out = λ t. subst (λ y. Out n.kind y seen.Loot) (newly Γ r r' n seen.Loot refl) refl;
           inward = λ t. subst (λ y. In n.kind y seen.Loot) (newly Γ r r' n seen.Loot refl)

@@ -20,7 +20,7 @@ use Rattle.glb_place.specs.Rows.{known_row}
 use Rattle.glb_cells.specs.declared.view.View.{View}
 use Rattle.glb_cells.specs.Words.{Cell, empty, wanted, denied, wanted_gift, denied_gift, full, emptied, word_of, slot_of, cell_state, edge_of, Fitting, Out, In, read}
 use Rattle.glb_cells.specs.Shows.{Fixed, total, items_of, Apt, AptAt, Shows, Table, world_of}
-use Rattle.glb_cells.specs.Plays.{after_step, left_at, given_up_on, shrugged_on, GivesUp, Shrugs}
+use Rattle.glb_cells.specs.Plays.{after_step, left_at, given_up_on, shrugged_on, GivesUp, Shrugs, slots_of}
 use Rattle.glb_cells.proofs.StepLemmas.ListFacts.{matched, map_same}
 use Rattle.glb_cells.proofs.StepLemmas.Keeps.{Turn, edge_goes, edge_stays}
 use Rattle.glb_cells.proofs.StepLemmas.Shown.{shown_edge}
@@ -271,16 +271,16 @@ module _ {B Q I : Type 0} (Γ : Fixed B Q I) (s : Table Γ) (h : Shows Γ s) (id
 module _ {B Q I : Type 0} (Γ : Fixed B Q I) where
   pub gives_up : (slots id e : ℕ) (n : EdgeName) (r : View Q I) → get_elem? Γ.names e ≡ some n
       → n.kind ≡ kind.Steal → r.hand ≡ None → May r.own (event.Shrug n.thief n.victim n.kind)
-      → Allows (Shows Γ) slots id (r ∷ [], []) (e + 3) (λ _. 0)
-      (GivesUp n (step slots (e + 3) 0 0 maybe.none) (r ∷ [], []))
+      → Allows (Shows Γ) slots id (r ∷ [], slots_of r) (e + 3) (λ _. 0)
+      (GivesUp n (step slots (e + 3) 0 0 maybe.none) (r ∷ [], slots_of r))
   gives_up slots id e n r name steal free may s h len at lt =
       let g = give_up_goes Γ s h id e n r at name steal free may in
-      (given_up_on n 2 r ∷ [], keeps, tt, g.1.0, (g.0, λ i. (given_up_on n (sym g.0 i) r ∷ [], [])))
+      (given_up_on n 2 r ∷ [], keeps, tt, g.1.0, (g.0, λ i. (given_up_on n (sym g.0 i) r ∷ [], slots_of r)))
 
   pub shrugs : (slots id e : ℕ) (n : EdgeName) (r : View Q I) → get_elem? Γ.names e ≡ some n
       → n.kind ≡ kind.Line → May r.own (event.Shrug n.thief n.victim n.kind)
-      → Allows (Shows Γ) slots id (r ∷ [], []) (e + 3) (λ k. k)
-      (Shrugs n (step slots (e + 3) 0 0 maybe.none) (r ∷ [], []))
+      → Allows (Shows Γ) slots id (r ∷ [], slots_of r) (e + 3) (λ k. k)
+      (Shrugs n (step slots (e + 3) 0 0 maybe.none) (r ∷ [], slots_of r))
   shrugs slots id e n r name line may s h len at lt = (
     shrugged_on n (slice_index s.words (e + 3)) r ∷ [],
     keeps,

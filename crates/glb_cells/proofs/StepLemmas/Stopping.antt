@@ -19,7 +19,7 @@ use Rattle.glb_place.specs.Rows.{halt_row, leave_row}
 use Rattle.glb_cells.specs.declared.view.View.{View}
 use Rattle.glb_cells.specs.Words.{word_of}
 use Rattle.glb_cells.specs.Shows.{part_of, Fixed, total, items_of, above, Numbers, Shows, Table, world_of}
-use Rattle.glb_cells.specs.Plays.{after_step, stopped_on, halted_on, settled_on, Halts, Stops, Settles}
+use Rattle.glb_cells.specs.Plays.{after_step, stopped_on, halted_on, settled_on, Halts, Stops, Settles, slots_of}
 use Rattle.glb_cells.proofs.StepLemmas.ListFacts.{total_set}
 use Rattle.glb_cells.proofs.StepLemmas.Keeps.{Count, number_goes, number_stays}
 use Rattle.glb_cells.proofs.StepLemmas.Shown.{same_numbers}
@@ -266,8 +266,8 @@ module _ {B Q I : Type 0} (Γ : Fixed B Q I) (s : Table Γ) (h : Shows Γ s) (id
 
 module _ {B Q I : Type 0} (Γ : Fixed B Q I) where
   pub stops : (slots id : ℕ) (r : View Q I) → r.own.local.phase ≢ phase.Gone
-      → Allows (Shows Γ) slots id (r ∷ [], []) 2 (λ n. n)
-      (Stops (step slots 2 0 0 maybe.none) (r ∷ [], []))
+      → Allows (Shows Γ) slots id (r ∷ [], slots_of r) 2 (λ n. n)
+      (Stops (step slots 2 0 0 maybe.none) (r ∷ [], slots_of r))
   stops slots id r stays s h len at lt = (
     stopped_on (slice_index s.words 2) r ∷ [],
     keeps,
@@ -282,8 +282,8 @@ module _ {B Q I : Type 0} (Γ : Fixed B Q I) where
 
   pub halts : (slots id c : ℕ) (r : View Q I) → r.own.local.phase ≢ phase.Gone → (c ≡ 1) ⊎ (c ≡ 2)
       → (c ≡ 1 → r.own.params.limit < r.own.last)
-      → Allows (Shows Γ) slots id (r ∷ [], []) 2 (λ n. max n c)
-      (Halts (step slots 2 c 0 maybe.none) (r ∷ [], []))
+      → Allows (Shows Γ) slots id (r ∷ [], slots_of r) 2 (λ n. max n c)
+      (Halts (step slots 2 c 0 maybe.none) (r ∷ [], slots_of r))
   halts slots id c r stays codes cause s h len at lt = (
     halted_on c (slice_index s.words 2) r ∷ [],
     keeps,
@@ -298,9 +298,9 @@ module _ {B Q I : Type 0} (Γ : Fixed B Q I) where
       → r.own.last ≤ r.own.params.limit
       → Moves (Γ.children r.program) r.own.local.bag taken rest → length taken ≡ done
       → gains ≡ combined (value r.program) combine unit taken ∷ []
-      → Allows (Shows Γ) slots id (r ∷ [], []) 1 (λ n. (n + done) % 18446744073709551616)
+      → Allows (Shows Γ) slots id (r ∷ [], slots_of r) 1 (λ n. (n + done) % 18446744073709551616)
       (Settles Γ.children value combine unit rest gains (step slots 1 done 0 maybe.none)
-      (r ∷ [], []))
+      (r ∷ [], slots_of r))
   settles value combine unit gains slots id done taken rest r free may some_done few last moves long
       worth_is s h len at lt = (
         settled_on (slice_index s.words 1) done taken rest r ∷ [],

@@ -23,7 +23,7 @@ use Rattle.glb_cells.specs.declared.key.Start.{Start}
 use Rattle.glb_cells.specs.declared.looks.LookCounts.{LookCounts}
 use Rattle.glb_cells.specs.Starts.{names_from}
 use Rattle.glb_cells.specs.Looking.{LookTable}
-use Rattle.glb_cells.specs.Plays.{Seated, IsFree}
+use Rattle.glb_cells.specs.Plays.{Seated, slots_of}
 use Rattle.glb_cells.specs.Berths.{CellsView, BerthView, IsStateOf, size_after_gift, size_after_take}
 use Rattle.glb_cells.specs.inner.Numbers.{HasNumbers}
 
@@ -58,8 +58,14 @@ blank = record {
   code = 0;
 }
 
+-- the edge in hand
+abbrev pub edge_in : {I : Type 0} → Option (ℕ × List I) → Option ℕ
+edge_in None = None
+edge_in (Some x) = Some x.0
+
 module _ {Q I : Type 0} where
-  -- of the first view of a seat: its program, record, steps and the word that the last one found
+  -- of the first view of a seat: its program, record, the edge whose slot it holds, its steps and
+  -- the word that the last one found
   abbrev pub program_in : List (View Q I) → Option Q
   program_in [] = None
   program_in (r ∷ rs) = Some r.program
@@ -67,6 +73,10 @@ module _ {Q I : Type 0} where
   abbrev pub kept_in : List (View Q I) → Record I
   kept_in [] = blank
   kept_in (r ∷ rs) = r.own
+
+  abbrev pub slot_in : List (View Q I) → Option ℕ
+  slot_in [] = None
+  slot_in (r ∷ rs) = edge_in r.hand
 
   abbrev pub steps_in : List (View Q I) → ℕ
   steps_in [] = 0
@@ -101,6 +111,7 @@ berth_view id views a c looks = record {
   object = id;
   program = program_in views;
   kept = kept_in views;
+  slot = slot_in views;
   steps = steps_in views;
   found = found_in views;
   state = a;
@@ -137,12 +148,11 @@ pub record IsBeside {I : Type 0} (r : Record I) (a : PlaceState) (c : Counters) 
   pub holds : AreHeld held r
   pub room : HasRoom r.lines.places looks
 
--- what a berth keeps: its seat has one view, of a place that is in no gift, and holds no slot
+-- what a berth keeps: its seat has one view, of a place, and holds the slots that the view tells
 pub record IsKept {B Q I : Type 0} (me : Seated B Q I) (a : PlaceState) (c : Counters)
     (held : List Bool) (looks : LookTable) : Type 0 where
   pub view : View Q I
-  pub me_is : me ≡ (view ∷ [], [])
-  pub free : IsFree view
+  pub me_is : me ≡ (view ∷ [], slots_of view)
   pub beside : IsBeside view.own a c held looks
 
 -- what the shared object keeps beside its table

@@ -1,5 +1,5 @@
 -- Seats that are dealt, one for each place, and what the end of the table tells of their views.
-use Rattle.std.specs.Prelude.{◌≡◌, ℕ, ◌<◌, ◌≤◌, ◌^◌, List, Some}
+use Rattle.std.specs.Prelude.{◌≡◌, ℕ, ◌<◌, ◌≤◌, ◌^◌, List, Some, None}
 use mathlib.Core.Option.{some}
 use lib.ListN.{get_elem?}
 use Rattle.atomic_table.specs.Seated.{TableId}
@@ -19,6 +19,7 @@ module _ {B Q I : Type 0} (Γ : Fixed B Q I) where
     pub object : b.object ≡ id
     pub program : b.program ≡ Some Γ.program
     pub kept : b.kept ≡ (first_view Γ p).own
+    pub free : b.slot ≡ None
     pub steps : b.steps ≡ 0
 
   -- the last world of a history has these numbers, and is as these views say

@@ -11,7 +11,7 @@ swap-requires g c =
     let Γ = (setup_from g.B.Bag.items g.B.Bag.fits g.P.Program.children c.args.cells.now.key) in (
       search rules,
       search rules,
-      may_hand Γ _ _ _ _ c.requires.name c.args.part _
+      may_hand Γ _ _ _ _ c.requires.name _ c.args.part _ _
           (under_way Γ g.J.Named.name _ m.0 c.args.part _ _ _ (may.0, may.1, may.2.0)
           c.requires.fits m.1 c.exchange.ensures.3),
     )

@@ -26,7 +26,7 @@ swap-requires-2 g c = (
   search rules,
   search rules,
   may_clear (setup_from g.B.Bag.items g.B.Bag.fits g.P.Program.children c.args.cells.now.key) _ _ _
-      _ c.requires.name _ _
+      _ c.requires.name _ _ _
       (in_hand (setup_from g.B.Bag.items g.B.Bag.fits g.P.Program.children c.args.cells.now.key)
       g.J.Named.name c.args.cells.now.table_id.slots c.args.edge c.swap.result
       c.exchange-part.result c.args.seat.now.me c.swap.new.seat.me _ c.requires.ready

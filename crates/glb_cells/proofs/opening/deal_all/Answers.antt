@@ -3,6 +3,7 @@ use Rattle.std.proofs.lemmas.List.{length-append}
 use Rattle.glb_cells.specs.declared.view.View.{View}
 use Rattle.glb_cells.specs.Starts.{first_view, setup_from}
 use Rattle.glb_cells.specs.Berths.{BerthView}
+use Rattle.glb_cells.specs.inner.Keeping.{edge_in}
 use Rattle.glb_cells.specs.inner.Seats.{HasFirst}
 use Rattle.glb_cells.proofs.StartLemmas.Drops.{drop_some, drop_next}
 use Rattle.glb_cells.proofs.StartLemmas.Starting.{long_views}
@@ -31,7 +32,6 @@ berth_at_start-berth-requires g c =
         view = first_view (setup_from g.B.Bag.items g.B.Bag.fits g.P.Program.children key)
             c.loop-place.place;
         me_is = d.4 ∙ ap (λ (x : View g.row.P.Denot g.row.P-Item.Denot). (x ∷ [], [])) is;
-        free = refl;
         beside = first_beside g.B.Bag.items g.B.Bag.fits g.P.Program.children key c.requires.sound
             c.requires.cube c.args.bags.now c.requires.bags.0 c.requires.bags.1
             c.loop-place.place c.len.result c.args.tries c.index-bags-place.result
@@ -65,6 +65,7 @@ loop-place-preserved g c =
       object = b.ensures.object ∙ c.deal-seat.ensures.table.1 ∙ i.table;
       program = v.0 ∙ ap (λ (r : View g.row.P.Denot g.row.P-Item.Denot). Some r.program) is;
       kept = v.1 ∙ ap (λ (r : View g.row.P.Denot g.row.P-Item.Denot). r.own) is;
+      free = v.3 ∙ ap (λ (r : View g.row.P.Denot g.row.P-Item.Denot). edge_in r.hand) is;
       steps = v.2 ∙ ap (λ (r : View g.row.P.Denot g.row.P-Item.Denot). r.steps) is;
     } in
     record {

@@ -5,7 +5,7 @@ use Rattle.glb_rules.specs.declared.place_state.PlaceState.{PlaceState}
 use Rattle.glb_place.specs.Rows.{ask_row}
 use Rattle.glb_cells.specs.Plays.{asked_at, asked_on}
 use Rattle.glb_cells.specs.inner.Keeping.{IsBeside, table_of}
-use Rattle.glb_cells.proofs.BerthLemmas.Opened.{turned, numbered, table_is, object_is, place_is, may_at, ends, still_of, moved, found_now}
+use Rattle.glb_cells.proofs.BerthLemmas.Opened.{turned, numbered, table_is, object_is, place_is, may_at, ends, is_free, still_free, moved, found_now}
 use Rattle.glb_cells.proofs.BerthLemmas.There.{there_ask}
 use Rattle.glb_cells.proofs.BerthLemmas.States.{asks_beside, ask_stays}
 use Rattle.glb_cells.proofs.cells.Cells.ask.Goals as goal
@@ -15,12 +15,12 @@ number-edge-requires-clause-thief g c =
     let m = may_at c.args.self.now c.berth.inside.seat.me c.berth.inside.state
     c.berth.inside.counters c.berth.inside.held.items (table_of c.berth.inside.looks)
     c.berth.inside.seat.table_id c.args.berth.now c.berth.view_is c.berth.invariant
-    c.requires.here (λ p. event.Ask p c.args.victim c.args.kind) c.requires.may in
+    c.requires.here.here (λ p. event.Ask p c.args.victim c.args.kind) c.requires.may in
     let there = there_ask c.berth.invariant.view.own c.berth.invariant.beside.listed c.args.kind
     c.berth.inside.state.place c.args.victim m in
     let e = ends c.args.self.now c.berth.inside.seat.me c.berth.inside.state c.berth.inside.counters
     c.berth.inside.held.items (table_of c.berth.inside.looks) c.berth.inside.seat.table_id
-    c.args.berth.now c.berth.view_is c.berth.invariant c.requires.here
+    c.args.berth.now c.berth.view_is c.berth.invariant c.requires.here.here
     (name_of c.args.kind c.berth.inside.state.place c.args.victim) m.1.0 m.1.2 there in
     e.thief
 
@@ -29,12 +29,12 @@ number-edge-requires-clause-victim g c =
     let m = may_at c.args.self.now c.berth.inside.seat.me c.berth.inside.state
     c.berth.inside.counters c.berth.inside.held.items (table_of c.berth.inside.looks)
     c.berth.inside.seat.table_id c.args.berth.now c.berth.view_is c.berth.invariant
-    c.requires.here (λ p. event.Ask p c.args.victim c.args.kind) c.requires.may in
+    c.requires.here.here (λ p. event.Ask p c.args.victim c.args.kind) c.requires.may in
     let there = there_ask c.berth.invariant.view.own c.berth.invariant.beside.listed c.args.kind
     c.berth.inside.state.place c.args.victim m in
     let e = ends c.args.self.now c.berth.inside.seat.me c.berth.inside.state c.berth.inside.counters
     c.berth.inside.held.items (table_of c.berth.inside.looks) c.berth.inside.seat.table_id
-    c.args.berth.now c.berth.view_is c.berth.invariant c.requires.here
+    c.args.berth.now c.berth.view_is c.berth.invariant c.requires.here.here
     (name_of c.args.kind c.berth.inside.state.place c.args.victim) m.1.0 m.1.2 there in
     e.victim
 
@@ -43,12 +43,12 @@ number-edge-requires-clause-there g c =
     let m = may_at c.args.self.now c.berth.inside.seat.me c.berth.inside.state
     c.berth.inside.counters c.berth.inside.held.items (table_of c.berth.inside.looks)
     c.berth.inside.seat.table_id c.args.berth.now c.berth.view_is c.berth.invariant
-    c.requires.here (λ p. event.Ask p c.args.victim c.args.kind) c.requires.may in
+    c.requires.here.here (λ p. event.Ask p c.args.victim c.args.kind) c.requires.may in
     let there = there_ask c.berth.invariant.view.own c.berth.invariant.beside.listed c.args.kind
     c.berth.inside.state.place c.args.victim m in
     let e = ends c.args.self.now c.berth.inside.seat.me c.berth.inside.state c.berth.inside.counters
     c.berth.inside.held.items (table_of c.berth.inside.looks) c.berth.inside.seat.table_id
-    c.args.berth.now c.berth.view_is c.berth.invariant c.requires.here
+    c.args.berth.now c.berth.view_is c.berth.invariant c.requires.here.here
     (name_of c.args.kind c.berth.inside.state.place c.args.victim) m.1.0 m.1.2 there in
     e.there
 
@@ -63,7 +63,7 @@ ask_as-requires-clause-table g c =
           (object_is c.args.self.now c.berth.inside.seat.me c.berth.inside.state
           c.berth.inside.counters c.berth.inside.held.items (table_of c.berth.inside.looks)
           c.berth.inside.seat.table_id c.args.berth.now c.berth.view_is c.berth.invariant
-          c.requires.here),
+          c.requires.here.here),
       n.small,
       n.few,
     )
@@ -80,26 +80,32 @@ ask_as-requires-clause-ready g c =
     let m = may_at c.args.self.now c.berth.inside.seat.me c.berth.inside.state
     c.berth.inside.counters c.berth.inside.held.items (table_of c.berth.inside.looks)
     c.berth.inside.seat.table_id c.args.berth.now c.berth.view_is c.berth.invariant
-    c.requires.here (λ p. event.Ask p c.args.victim c.args.kind) c.requires.may in
+    c.requires.here.here (λ p. event.Ask p c.args.victim c.args.kind) c.requires.may in
     let there = there_ask c.berth.invariant.view.own c.berth.invariant.beside.listed c.args.kind
     c.berth.inside.state.place c.args.victim m in
     let e = ends c.args.self.now c.berth.inside.seat.me c.berth.inside.state c.berth.inside.counters
     c.berth.inside.held.items (table_of c.berth.inside.looks) c.berth.inside.seat.table_id
-    c.args.berth.now c.berth.view_is c.berth.invariant c.requires.here
-    (name_of c.args.kind c.berth.inside.state.place c.args.victim) m.1.0 m.1.2 there in
-    (c.berth.invariant.view, c.berth.invariant.me_is, (c.berth.invariant.free, m))
+    c.args.berth.now c.berth.view_is c.berth.invariant c.requires.here.here
+    (name_of c.args.kind c.berth.inside.state.place c.args.victim) m.1.0 m.1.2 there in (
+      c.berth.invariant.view,
+      c.berth.invariant.me_is,
+      (
+        is_free c.berth.invariant.me_is (ap (λ b. b.slot) c.berth.view_is ∙ c.requires.here.free),
+        m,
+      ),
+    )
 
 pub invariant_of-berth : goal.invariant_of-berth
 invariant_of-berth g c =
     let m = may_at c.args.self.now c.berth.inside.seat.me c.berth.inside.state
     c.berth.inside.counters c.berth.inside.held.items (table_of c.berth.inside.looks)
     c.berth.inside.seat.table_id c.args.berth.now c.berth.view_is c.berth.invariant
-    c.requires.here (λ p. event.Ask p c.args.victim c.args.kind) c.requires.may in
+    c.requires.here.here (λ p. event.Ask p c.args.victim c.args.kind) c.requires.may in
     let there = there_ask c.berth.invariant.view.own c.berth.invariant.beside.listed c.args.kind
     c.berth.inside.state.place c.args.victim m in
     let e = ends c.args.self.now c.berth.inside.seat.me c.berth.inside.state c.berth.inside.counters
     c.berth.inside.held.items (table_of c.berth.inside.looks) c.berth.inside.seat.table_id
-    c.args.berth.now c.berth.view_is c.berth.invariant c.requires.here
+    c.args.berth.now c.berth.view_is c.berth.invariant c.requires.here.here
     (name_of c.args.kind c.berth.inside.state.place c.args.victim) m.1.0 m.1.2 there in
     record {
       view = (asked_on (name_of c.args.kind c.berth.inside.state.place c.args.victim) 0)
@@ -107,7 +113,6 @@ invariant_of-berth g c =
       me_is = (turned (asked_on (name_of c.args.kind c.berth.inside.state.place c.args.victim) 0)
           c.berth.inside.seat.me c.ask_as.new.seat.me c.berth.invariant.view c.berth.invariant.me_is
           c.ask_as.ensures.moved);
-      free = c.berth.invariant.free;
       beside = subst (λ (s : PlaceState). IsBeside
           (asked_at (name_of c.args.kind c.berth.inside.state.place c.args.victim)
           c.berth.invariant.view.own) s c.count_ask.new.counters c.berth.inside.held.items
@@ -121,21 +126,22 @@ invariant_of-berth g c =
 
 pub returns-clause-here : goal.returns-clause-here
 returns-clause-here g c =
-    still_of c.args.self.now c.berth.inside.seat.me c.berth.inside.state c.berth.inside.counters
+    still_free c.args.self.now c.berth.inside.seat.me c.berth.inside.state c.berth.inside.counters
     c.berth.inside.held.items (table_of c.berth.inside.looks) c.berth.inside.seat.table_id
-    c.args.berth.now c.berth.view_is c.berth.invariant c.requires.here
+    c.args.berth.now c.berth.view_is c.berth.invariant c.requires.here.here
     c.ask_as.new.seat.table_id c.ask_as.ensures.table.0 c.ask_as.new.seat.me
     ((asked_on (name_of c.args.kind c.berth.inside.state.place c.args.victim) 0)
     c.berth.invariant.view) (turned (asked_on
     (name_of c.args.kind c.berth.inside.state.place c.args.victim) 0) c.berth.inside.seat.me
     c.ask_as.new.seat.me c.berth.invariant.view c.berth.invariant.me_is c.ask_as.ensures.moved)
     c.ask.new.state c.count_ask.new.counters refl refl refl refl
+    (is_free c.berth.invariant.me_is (ap (λ b. b.slot) c.berth.view_is ∙ c.requires.here.free))
 
 pub returns-clause-moved : goal.returns-clause-moved
 returns-clause-moved g c =
     moved c.args.self.now c.berth.inside.seat.me c.berth.inside.state c.berth.inside.counters
     c.berth.inside.held.items (table_of c.berth.inside.looks) c.berth.inside.seat.table_id
-    c.args.berth.now c.berth.view_is c.berth.invariant c.requires.here
+    c.args.berth.now c.berth.view_is c.berth.invariant c.requires.here.here
     c.ask_as.new.seat.table_id c.ask_as.ensures.table.0 c.ask_as.new.seat.me
     ((asked_on (name_of c.args.kind c.berth.inside.state.place c.args.victim) 0)
     c.berth.invariant.view) (turned (asked_on
@@ -146,15 +152,15 @@ returns-clause-moved g c =
     (sym (place_is c.args.self.now c.berth.inside.seat.me c.berth.inside.state
     c.berth.inside.counters c.berth.inside.held.items (table_of c.berth.inside.looks)
     c.berth.inside.seat.table_id c.args.berth.now c.berth.view_is c.berth.invariant
-    c.requires.here))) refl (ap (λ (s : PlaceState). s.size) c.ask.ensures
-    ∙ (ask_stays c.args.victim c.args.kind c.berth.inside.state).1)
+    c.requires.here.here))) refl (ap (λ (s : PlaceState). s.size) c.ask.ensures
+    ∙ (ask_stays c.args.victim c.args.kind c.berth.inside.state).1) refl
 
 pub returns-clause-found : goal.returns-clause-found
 returns-clause-found g c =
     sym (found_now c.args.self.now c.berth.inside.seat.me c.berth.inside.state
     c.berth.inside.counters c.berth.inside.held.items (table_of c.berth.inside.looks)
     c.berth.inside.seat.table_id c.args.berth.now c.berth.view_is c.berth.invariant
-    c.requires.here c.ask_as.new.seat.table_id c.ask_as.ensures.table.0 c.ask_as.new.seat.me
+    c.requires.here.here c.ask_as.new.seat.table_id c.ask_as.ensures.table.0 c.ask_as.new.seat.me
     ((asked_on (name_of c.args.kind c.berth.inside.state.place c.args.victim) 0)
     c.berth.invariant.view) (turned (asked_on
     (name_of c.args.kind c.berth.inside.state.place c.args.victim) 0) c.berth.inside.seat.me

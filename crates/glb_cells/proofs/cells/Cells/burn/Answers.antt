@@ -36,7 +36,6 @@ invariant_of-berth g c =
       view = (burnt_on c.burn.result) c.berth.invariant.view;
       me_is = (turned (burnt_on c.burn.result) c.berth.inside.seat.me c.burn.new.seat.me
           c.berth.invariant.view c.berth.invariant.me_is c.burn.ensures.moved);
-      free = c.berth.invariant.free;
       beside = burns_beside c.berth.invariant.view.own c.berth.inside.state c.berth.inside.counters
           c.berth.inside.held.items (table_of c.berth.inside.looks) c.berth.invariant.beside;
     }
@@ -61,4 +60,4 @@ returns-clause-moved g c =
     (turned (burnt_on c.burn.result) c.berth.inside.seat.me c.burn.new.seat.me
     c.berth.invariant.view c.berth.invariant.me_is c.burn.ensures.moved)
     (record c.berth.inside.state { credit = credits.One }) c.berth.inside.counters 1 burn_row
-    refl refl refl
+    refl refl refl refl

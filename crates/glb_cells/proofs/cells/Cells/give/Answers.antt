@@ -10,7 +10,7 @@ use Rattle.glb_cells.specs.declared.view.View.{View}
 use Rattle.glb_cells.specs.Plays.{Seated, OnFirst, gave_at}
 use Rattle.glb_cells.specs.Berths.{size_after_gift}
 use Rattle.glb_cells.specs.inner.Keeping.{IsBeside, table_of}
-use Rattle.glb_cells.proofs.BerthLemmas.Opened.{numbered, table_is, kept_is, object_is, program_is, place_is, may_at, size_was, ends, still_of, makes, kept_now}
+use Rattle.glb_cells.proofs.BerthLemmas.Opened.{numbered, table_is, kept_is, object_is, program_is, place_is, may_at, size_was, ends, is_free, still_free, makes, kept_now}
 use Rattle.glb_cells.proofs.BerthLemmas.There.{one_view, begins_as, there_give}
 use Rattle.glb_cells.proofs.BerthLemmas.States.{given_beside}
 use Rattle.glb_cells.proofs.cells.Cells.give.Goals as goal
@@ -20,12 +20,12 @@ number-edge-requires-clause-thief g c =
     let m = may_at c.args.self.now c.berth.inside.seat.me c.berth.inside.state
     c.berth.inside.counters c.berth.inside.held.items (table_of c.berth.inside.looks)
     c.berth.inside.seat.table_id c.args.berth.now c.berth.view_is c.berth.invariant
-    c.requires.here (λ p. event.Give p c.args.thief c.args.kind) c.requires.may in
+    c.requires.here.here (λ p. event.Give p c.args.thief c.args.kind) c.requires.may in
     let there = there_give c.berth.invariant.view.own c.berth.invariant.beside.listed c.args.kind
     c.args.thief c.berth.inside.state.place m in
     let e = ends c.args.self.now c.berth.inside.seat.me c.berth.inside.state c.berth.inside.counters
     c.berth.inside.held.items (table_of c.berth.inside.looks) c.berth.inside.seat.table_id
-    c.args.berth.now c.berth.view_is c.berth.invariant c.requires.here
+    c.args.berth.now c.berth.view_is c.berth.invariant c.requires.here.here
     (name_of c.args.kind c.args.thief c.berth.inside.state.place) m.1.1 m.1.0 there in
     e.thief
 
@@ -34,12 +34,12 @@ number-edge-requires-clause-victim g c =
     let m = may_at c.args.self.now c.berth.inside.seat.me c.berth.inside.state
     c.berth.inside.counters c.berth.inside.held.items (table_of c.berth.inside.looks)
     c.berth.inside.seat.table_id c.args.berth.now c.berth.view_is c.berth.invariant
-    c.requires.here (λ p. event.Give p c.args.thief c.args.kind) c.requires.may in
+    c.requires.here.here (λ p. event.Give p c.args.thief c.args.kind) c.requires.may in
     let there = there_give c.berth.invariant.view.own c.berth.invariant.beside.listed c.args.kind
     c.args.thief c.berth.inside.state.place m in
     let e = ends c.args.self.now c.berth.inside.seat.me c.berth.inside.state c.berth.inside.counters
     c.berth.inside.held.items (table_of c.berth.inside.looks) c.berth.inside.seat.table_id
-    c.args.berth.now c.berth.view_is c.berth.invariant c.requires.here
+    c.args.berth.now c.berth.view_is c.berth.invariant c.requires.here.here
     (name_of c.args.kind c.args.thief c.berth.inside.state.place) m.1.1 m.1.0 there in
     e.victim
 
@@ -48,12 +48,12 @@ number-edge-requires-clause-there g c =
     let m = may_at c.args.self.now c.berth.inside.seat.me c.berth.inside.state
     c.berth.inside.counters c.berth.inside.held.items (table_of c.berth.inside.looks)
     c.berth.inside.seat.table_id c.args.berth.now c.berth.view_is c.berth.invariant
-    c.requires.here (λ p. event.Give p c.args.thief c.args.kind) c.requires.may in
+    c.requires.here.here (λ p. event.Give p c.args.thief c.args.kind) c.requires.may in
     let there = there_give c.berth.invariant.view.own c.berth.invariant.beside.listed c.args.kind
     c.args.thief c.berth.inside.state.place m in
     let e = ends c.args.self.now c.berth.inside.seat.me c.berth.inside.state c.berth.inside.counters
     c.berth.inside.held.items (table_of c.berth.inside.looks) c.berth.inside.seat.table_id
-    c.args.berth.now c.berth.view_is c.berth.invariant c.requires.here
+    c.args.berth.now c.berth.view_is c.berth.invariant c.requires.here.here
     (name_of c.args.kind c.args.thief c.berth.inside.state.place) m.1.1 m.1.0 there in
     e.there
 
@@ -68,7 +68,7 @@ give_as-requires-clause-table g c =
           (object_is c.args.self.now c.berth.inside.seat.me c.berth.inside.state
           c.berth.inside.counters c.berth.inside.held.items (table_of c.berth.inside.looks)
           c.berth.inside.seat.table_id c.args.berth.now c.berth.view_is c.berth.invariant
-          c.requires.here),
+          c.requires.here.here),
       n.small,
       n.few,
     )
@@ -85,12 +85,12 @@ begin_word-word-requires g c =
     let m = may_at c.args.self.now c.berth.inside.seat.me c.berth.inside.state
     c.berth.inside.counters c.berth.inside.held.items (table_of c.berth.inside.looks)
     c.berth.inside.seat.table_id c.args.berth.now c.berth.view_is c.berth.invariant
-    c.requires.here (λ p. event.Give p c.args.thief c.args.kind) c.requires.may in
+    c.requires.here.here (λ p. event.Give p c.args.thief c.args.kind) c.requires.may in
     let there = there_give c.berth.invariant.view.own c.berth.invariant.beside.listed c.args.kind
     c.args.thief c.berth.inside.state.place m in
     let e = ends c.args.self.now c.berth.inside.seat.me c.berth.inside.state c.berth.inside.counters
     c.berth.inside.held.items (table_of c.berth.inside.looks) c.berth.inside.seat.table_id
-    c.args.berth.now c.berth.view_is c.berth.invariant c.requires.here
+    c.args.berth.now c.berth.view_is c.berth.invariant c.requires.here.here
     (name_of c.args.kind c.args.thief c.berth.inside.state.place) m.1.1 m.1.0 there in
     let l = c.berth.invariant.beside.held_long in omega (arith, m.1.1, l)
 
@@ -99,24 +99,24 @@ give_as-requires-clause-ready g c =
     let m = may_at c.args.self.now c.berth.inside.seat.me c.berth.inside.state
     c.berth.inside.counters c.berth.inside.held.items (table_of c.berth.inside.looks)
     c.berth.inside.seat.table_id c.args.berth.now c.berth.view_is c.berth.invariant
-    c.requires.here (λ p. event.Give p c.args.thief c.args.kind) c.requires.may in
+    c.requires.here.here (λ p. event.Give p c.args.thief c.args.kind) c.requires.may in
     let there = there_give c.berth.invariant.view.own c.berth.invariant.beside.listed c.args.kind
     c.args.thief c.berth.inside.state.place m in
     let e = ends c.args.self.now c.berth.inside.seat.me c.berth.inside.state c.berth.inside.counters
     c.berth.inside.held.items (table_of c.berth.inside.looks) c.berth.inside.seat.table_id
-    c.args.berth.now c.berth.view_is c.berth.invariant c.requires.here
+    c.args.berth.now c.berth.view_is c.berth.invariant c.requires.here.here
     (name_of c.args.kind c.args.thief c.berth.inside.state.place) m.1.1 m.1.0 there in (
       c.berth.invariant.view,
       c.berth.invariant.me_is,
       (
         (
-          c.berth.invariant.free,
+          is_free c.berth.invariant.me_is (ap (λ b. b.slot) c.berth.view_is ∙ c.requires.here.free),
           m,
           c.requires.part,
           subst (HasMore (g.B.Bag.items c.args.part))
               (kept_is c.args.self.now c.berth.inside.seat.me c.berth.inside.state c.berth.inside.counters
               c.berth.inside.held.items (table_of c.berth.inside.looks) c.berth.inside.seat.table_id
-              c.args.berth.now c.berth.view_is c.berth.invariant c.requires.here) c.requires.rest,
+              c.args.berth.now c.berth.view_is c.berth.invariant c.requires.here.here) c.requires.rest,
         ),
         begins_as c.berth.invariant.view.own c.berth.invariant.beside.listed c.berth.inside.held.items
             c.berth.invariant.beside.holds c.args.kind c.args.thief c.berth.inside.state.place
@@ -132,19 +132,19 @@ give_as-requires-clause-fits g c =
     (sym (program_is c.args.self.now c.berth.inside.seat.me c.berth.inside.state
     c.berth.inside.counters c.berth.inside.held.items (table_of c.berth.inside.looks)
     c.berth.inside.seat.table_id c.args.berth.now c.berth.view_is c.berth.invariant
-    c.requires.here)) c.requires.fits)
+    c.requires.here.here)) c.requires.fits)
 
 pub hold-requires : goal.hold-requires
 hold-requires g c =
     let m = may_at c.args.self.now c.berth.inside.seat.me c.berth.inside.state
     c.berth.inside.counters c.berth.inside.held.items (table_of c.berth.inside.looks)
     c.berth.inside.seat.table_id c.args.berth.now c.berth.view_is c.berth.invariant
-    c.requires.here (λ p. event.Give p c.args.thief c.args.kind) c.requires.may in
+    c.requires.here.here (λ p. event.Give p c.args.thief c.args.kind) c.requires.may in
     let there = there_give c.berth.invariant.view.own c.berth.invariant.beside.listed c.args.kind
     c.args.thief c.berth.inside.state.place m in
     let e = ends c.args.self.now c.berth.inside.seat.me c.berth.inside.state c.berth.inside.counters
     c.berth.inside.held.items (table_of c.berth.inside.looks) c.berth.inside.seat.table_id
-    c.args.berth.now c.berth.view_is c.berth.invariant c.requires.here
+    c.args.berth.now c.berth.view_is c.berth.invariant c.requires.here.here
     (name_of c.args.kind c.args.thief c.berth.inside.state.place) m.1.1 m.1.0 there in
     let l = c.berth.invariant.beside.held_long in omega (arith, m.1.1, l)
 
@@ -153,12 +153,12 @@ invariant_of-berth g c =
     let m = may_at c.args.self.now c.berth.inside.seat.me c.berth.inside.state
     c.berth.inside.counters c.berth.inside.held.items (table_of c.berth.inside.looks)
     c.berth.inside.seat.table_id c.args.berth.now c.berth.view_is c.berth.invariant
-    c.requires.here (λ p. event.Give p c.args.thief c.args.kind) c.requires.may in
+    c.requires.here.here (λ p. event.Give p c.args.thief c.args.kind) c.requires.may in
     let there = there_give c.berth.invariant.view.own c.berth.invariant.beside.listed c.args.kind
     c.args.thief c.berth.inside.state.place m in
     let e = ends c.args.self.now c.berth.inside.seat.me c.berth.inside.state c.berth.inside.counters
     c.berth.inside.held.items (table_of c.berth.inside.looks) c.berth.inside.seat.table_id
-    c.args.berth.now c.berth.view_is c.berth.invariant c.requires.here
+    c.args.berth.now c.berth.view_is c.berth.invariant c.requires.here.here
     (name_of c.args.kind c.args.thief c.berth.inside.state.place) m.1.1 m.1.0 there in
     let t = c.give_as.ensures.moved in
     let same : c.berth.invariant.view ≡ t.0 = one_view c.berth.inside.seat.me c.berth.invariant.view
@@ -177,7 +177,6 @@ invariant_of-berth g c =
     record {
       view = t.2.0;
       me_is = t.2.1;
-      free = t.2.2.2;
       beside = subst (λ (z : Record g.row.P-Item.Denot × PlaceState × List Bool). IsBeside z.0 z.1
           c.count_given.new.counters z.2 (table_of c.berth.inside.looks))
           (λ i. (sym row i, sym c.give.ensures i, sym c.hold.ensures i)) beside;
@@ -188,12 +187,12 @@ returns-clause-here g c =
     let m = may_at c.args.self.now c.berth.inside.seat.me c.berth.inside.state
     c.berth.inside.counters c.berth.inside.held.items (table_of c.berth.inside.looks)
     c.berth.inside.seat.table_id c.args.berth.now c.berth.view_is c.berth.invariant
-    c.requires.here (λ p. event.Give p c.args.thief c.args.kind) c.requires.may in
+    c.requires.here.here (λ p. event.Give p c.args.thief c.args.kind) c.requires.may in
     let there = there_give c.berth.invariant.view.own c.berth.invariant.beside.listed c.args.kind
     c.args.thief c.berth.inside.state.place m in
     let e = ends c.args.self.now c.berth.inside.seat.me c.berth.inside.state c.berth.inside.counters
     c.berth.inside.held.items (table_of c.berth.inside.looks) c.berth.inside.seat.table_id
-    c.args.berth.now c.berth.view_is c.berth.invariant c.requires.here
+    c.args.berth.now c.berth.view_is c.berth.invariant c.requires.here.here
     (name_of c.args.kind c.args.thief c.berth.inside.state.place) m.1.1 m.1.0 there in
     let t = c.give_as.ensures.moved in
     let same : c.berth.invariant.view ≡ t.0 = one_view c.berth.inside.seat.me c.berth.invariant.view
@@ -203,27 +202,27 @@ returns-clause-here g c =
     t.2.2.0.0 v.own) (sym same) in
     let perm = subst (λ (v : View g.row.P.Denot g.row.P-Item.Denot). IsPermutation v.own.local.bag
     ((g.B.Bag.items c.args.part) ++ t.2.2.0.0)) (sym same) t.2.2.0.1 in
-    still_of c.args.self.now c.berth.inside.seat.me c.berth.inside.state c.berth.inside.counters
+    still_free c.args.self.now c.berth.inside.seat.me c.berth.inside.state c.berth.inside.counters
     c.berth.inside.held.items (table_of c.berth.inside.looks) c.berth.inside.seat.table_id
-    c.args.berth.now c.berth.view_is c.berth.invariant c.requires.here
+    c.args.berth.now c.berth.view_is c.berth.invariant c.requires.here.here
     c.give_as.new.seat.table_id c.give_as.ensures.table.0 c.give_as.new.seat.me t.2.0 t.2.1
     c.give.new.state c.count_given.new.counters (t.2.2.1
     ∙ ap (λ (v : View g.row.P.Denot g.row.P-Item.Denot). v.program) (sym same))
     (ap (λ (x : Record g.row.P-Item.Denot). x.lines) row)
     (ap (λ (x : Record g.row.P-Item.Denot). x.params) row)
-    (ap (λ (x : Record g.row.P-Item.Denot). x.place) row)
+    (ap (λ (x : Record g.row.P-Item.Denot). x.place) row) t.2.2.2
 
 pub returns-clause-makes : goal.returns-clause-makes
 returns-clause-makes g c =
     let m = may_at c.args.self.now c.berth.inside.seat.me c.berth.inside.state
     c.berth.inside.counters c.berth.inside.held.items (table_of c.berth.inside.looks)
     c.berth.inside.seat.table_id c.args.berth.now c.berth.view_is c.berth.invariant
-    c.requires.here (λ p. event.Give p c.args.thief c.args.kind) c.requires.may in
+    c.requires.here.here (λ p. event.Give p c.args.thief c.args.kind) c.requires.may in
     let there = there_give c.berth.invariant.view.own c.berth.invariant.beside.listed c.args.kind
     c.args.thief c.berth.inside.state.place m in
     let e = ends c.args.self.now c.berth.inside.seat.me c.berth.inside.state c.berth.inside.counters
     c.berth.inside.held.items (table_of c.berth.inside.looks) c.berth.inside.seat.table_id
-    c.args.berth.now c.berth.view_is c.berth.invariant c.requires.here
+    c.args.berth.now c.berth.view_is c.berth.invariant c.requires.here.here
     (name_of c.args.kind c.args.thief c.berth.inside.state.place) m.1.1 m.1.0 there in
     let t = c.give_as.ensures.moved in
     let same : c.berth.invariant.view ≡ t.0 = one_view c.berth.inside.seat.me c.berth.invariant.view
@@ -235,22 +234,23 @@ returns-clause-makes g c =
     ((g.B.Bag.items c.args.part) ++ t.2.2.0.0)) (sym same) t.2.2.0.1 in
     makes c.args.self.now c.berth.inside.seat.me c.berth.inside.state c.berth.inside.counters
     c.berth.inside.held.items (table_of c.berth.inside.looks) c.berth.inside.seat.table_id
-    c.args.berth.now c.berth.view_is c.berth.invariant c.requires.here
+    c.args.berth.now c.berth.view_is c.berth.invariant c.requires.here.here
     c.give_as.new.seat.table_id c.give_as.ensures.table.0 c.give_as.new.seat.me t.2.0 t.2.1
     c.give.new.state c.count_given.new.counters 2 (t.2.2.3
     ∙ ap (λ (v : View g.row.P.Denot g.row.P-Item.Denot). v.steps + 2) (sym same))
+    (t.2.2.2 ∙ sym (is_free c.berth.invariant.me_is (ap (λ b. b.slot) c.berth.view_is ∙ c.requires.here.free)))
 
 pub returns-clause-kept : goal.returns-clause-kept
 returns-clause-kept g c =
     let m = may_at c.args.self.now c.berth.inside.seat.me c.berth.inside.state
     c.berth.inside.counters c.berth.inside.held.items (table_of c.berth.inside.looks)
     c.berth.inside.seat.table_id c.args.berth.now c.berth.view_is c.berth.invariant
-    c.requires.here (λ p. event.Give p c.args.thief c.args.kind) c.requires.may in
+    c.requires.here.here (λ p. event.Give p c.args.thief c.args.kind) c.requires.may in
     let there = there_give c.berth.invariant.view.own c.berth.invariant.beside.listed c.args.kind
     c.args.thief c.berth.inside.state.place m in
     let e = ends c.args.self.now c.berth.inside.seat.me c.berth.inside.state c.berth.inside.counters
     c.berth.inside.held.items (table_of c.berth.inside.looks) c.berth.inside.seat.table_id
-    c.args.berth.now c.berth.view_is c.berth.invariant c.requires.here
+    c.args.berth.now c.berth.view_is c.berth.invariant c.requires.here.here
     (name_of c.args.kind c.args.thief c.berth.inside.state.place) m.1.1 m.1.0 there in
     let t = c.give_as.ensures.moved in
     let same : c.berth.invariant.view ≡ t.0 = one_view c.berth.inside.seat.me c.berth.invariant.view
@@ -266,23 +266,23 @@ returns-clause-kept g c =
           (sym (kept_is c.args.self.now c.berth.inside.seat.me c.berth.inside.state
           c.berth.inside.counters c.berth.inside.held.items (table_of c.berth.inside.looks)
           c.berth.inside.seat.table_id c.args.berth.now c.berth.view_is c.berth.invariant
-          c.requires.here)) perm,
+          c.requires.here.here)) perm,
       t.2.2.0.2,
       sym (kept_now c.args.self.now c.berth.inside.seat.me c.berth.inside.state
           c.berth.inside.counters c.berth.inside.held.items (table_of c.berth.inside.looks)
           c.berth.inside.seat.table_id c.args.berth.now c.berth.view_is c.berth.invariant
-          c.requires.here c.give_as.new.seat.table_id c.give_as.ensures.table.0 c.give_as.new.seat.me
+          c.requires.here.here c.give_as.new.seat.table_id c.give_as.ensures.table.0 c.give_as.new.seat.me
           t.2.0 t.2.1 c.give.new.state c.count_given.new.counters) ∙ row
           ∙ ap (λ p. gave_at (name_of c.args.kind c.args.thief p) (g.B.Bag.items c.args.part)
           t.2.2.0.0 c.berth.invariant.view.own) (sym
           (place_is c.args.self.now c.berth.inside.seat.me c.berth.inside.state
           c.berth.inside.counters c.berth.inside.held.items (table_of c.berth.inside.looks)
           c.berth.inside.seat.table_id c.args.berth.now c.berth.view_is c.berth.invariant
-          c.requires.here)) ∙ ap (give_row c.args.thief c.args.kind (g.B.Bag.items c.args.part)
+          c.requires.here.here)) ∙ ap (give_row c.args.thief c.args.kind (g.B.Bag.items c.args.part)
           t.2.2.0.0) (sym (kept_is c.args.self.now c.berth.inside.seat.me c.berth.inside.state
           c.berth.inside.counters c.berth.inside.held.items (table_of c.berth.inside.looks)
           c.berth.inside.seat.table_id c.args.berth.now c.berth.view_is c.berth.invariant
-          c.requires.here)),
+          c.requires.here.here)),
     )
 
 pub returns-clause-size : goal.returns-clause-size
@@ -292,4 +292,4 @@ returns-clause-size g c =
     (sym (size_was c.args.self.now c.berth.inside.seat.me c.berth.inside.state
     c.berth.inside.counters c.berth.inside.held.items (table_of c.berth.inside.looks)
     c.berth.inside.seat.table_id c.args.berth.now c.berth.view_is c.berth.invariant
-    c.requires.here) i))
+    c.requires.here.here) i))

@@ -42,7 +42,6 @@ invariant_of-berth g c =
       view = (halted_on c.args.code c.halt.result) c.berth.invariant.view;
       me_is = (turned (halted_on c.args.code c.halt.result) c.berth.inside.seat.me
           c.halt.new.seat.me c.berth.invariant.view c.berth.invariant.me_is c.halt.ensures.moved);
-      free = c.berth.invariant.free;
       beside = halts_beside c.berth.invariant.view.own c.berth.inside.state c.berth.inside.counters
           c.berth.inside.held.items (table_of c.berth.inside.looks) c.berth.invariant.beside
           c.args.code;
@@ -68,4 +67,4 @@ returns-clause-moved g c =
     ((halted_on c.args.code c.halt.result) c.berth.invariant.view)
     (turned (halted_on c.args.code c.halt.result) c.berth.inside.seat.me c.halt.new.seat.me
     c.berth.invariant.view c.berth.invariant.me_is c.halt.ensures.moved) c.berth.inside.state
-    c.berth.inside.counters 1 (halt_row c.args.code) refl refl refl
+    c.berth.inside.counters 1 (halt_row c.args.code) refl refl refl refl

@@ -38,7 +38,6 @@ invariant_of-berth g c =
       me_is = (turned (stopped_on c.halted-code.result) c.berth.inside.seat.me
           c.halted-code.new.seat.me c.berth.invariant.view c.berth.invariant.me_is
           c.halted-code.ensures.moved);
-      free = c.berth.invariant.free;
       beside = subst (λ (s : PlaceState). IsBeside
           (halted_row c.halted-code.result c.berth.invariant.view.own) s c.berth.inside.counters
           c.berth.inside.held.items (table_of c.berth.inside.looks)) (sym c.leave.ensures)
@@ -72,7 +71,7 @@ returns-clause-moved g c =
     c.berth.invariant.view c.berth.invariant.me_is c.halted-code.ensures.moved)
     c.leave.new.state c.berth.inside.counters 1 (halted_row c.halted-code.result) refl refl
     (ap (λ (s : PlaceState). s.size) c.leave.ensures
-    ∙ (leave_stays (not (eqb c.halted-code.result 0)) c.berth.inside.state).1)
+    ∙ (leave_stays (not (eqb c.halted-code.result 0)) c.berth.inside.state).1) refl
 
 pub returns-clause-found : goal.returns-clause-found
 returns-clause-found g c =

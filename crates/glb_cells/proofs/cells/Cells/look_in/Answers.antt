@@ -172,7 +172,6 @@ invariant_of-berth g c =
       me_is = (turned (looked_on (name_of c.args.kind c.args.other c.berth.inside.state.place)
           c.look_in_as-word.result) c.berth.inside.seat.me c.look_in_as-word.new.seat.me
           c.berth.invariant.view c.berth.invariant.me_is c.look_in_as-word.ensures.moved);
-      free = c.berth.invariant.free;
       beside = looks_beside c.berth.invariant.view.own c.berth.inside.state c.berth.inside.counters
           c.berth.inside.held.items (table_of c.berth.inside.looks) c.berth.invariant.beside
           c.args.kind c.args.other (read c.look_in_as-word.result) there
@@ -218,7 +217,7 @@ returns-clause-moved g c =
     c.berth.inside.counters c.berth.inside.held.items (table_of c.berth.inside.looks)
     c.berth.inside.seat.table_id c.args.berth.now c.berth.view_is c.berth.invariant
     c.requires.here)) ∙ ap (λ x. look_row c.args.other c.args.kind side.Inward x
-    c.berth.invariant.view.own) (sym c.edge_of_word.ensures)) refl refl
+    c.berth.invariant.view.own) (sym c.edge_of_word.ensures)) refl refl refl
 
 pub returns-clause-found : goal.returns-clause-found
 returns-clause-found g c =

@@ -36,7 +36,6 @@ invariant_of-berth g c =
       view = (minted_on c.mint.result) c.berth.invariant.view;
       me_is = (turned (minted_on c.mint.result) c.berth.inside.seat.me c.mint.new.seat.me
           c.berth.invariant.view c.berth.invariant.me_is c.mint.ensures.moved);
-      free = c.berth.invariant.free;
       beside = mints_beside c.berth.invariant.view.own c.berth.inside.state c.berth.inside.counters
           c.berth.inside.held.items (table_of c.berth.inside.looks) c.berth.invariant.beside;
     }
@@ -61,4 +60,4 @@ returns-clause-moved g c =
     (turned (minted_on c.mint.result) c.berth.inside.seat.me c.mint.new.seat.me
     c.berth.invariant.view c.berth.invariant.me_is c.mint.ensures.moved)
     (record c.berth.inside.state { credit = credits.Minted }) c.berth.inside.counters 1 mint_row
-    refl refl refl
+    refl refl refl refl

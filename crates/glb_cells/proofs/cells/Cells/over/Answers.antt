@@ -36,7 +36,6 @@ invariant_of-berth g c =
       view = (ended_on c.over-live.result) c.berth.invariant.view;
       me_is = (turned (ended_on c.over-live.result) c.berth.inside.seat.me c.over-live.new.seat.me
           c.berth.invariant.view c.berth.invariant.me_is c.over-live.ensures.moved);
-      free = c.berth.invariant.free;
       beside = subst (λ (s : PlaceState). IsBeside
           (read_live c.over-live.result c.berth.invariant.view.own) s c.berth.inside.counters
           c.berth.inside.held.items (table_of c.berth.inside.looks)) (sym c.leave.ensures)
@@ -76,7 +75,7 @@ returns-clause-moved g c =
     (turned (ended_on c.over-live.result) c.berth.inside.seat.me c.over-live.new.seat.me
     c.berth.invariant.view c.berth.invariant.me_is c.over-live.ensures.moved) c.leave.new.state
     c.berth.inside.counters)) refl (ap (λ (s : PlaceState). s.size) c.leave.ensures
-    ∙ (leave_stays (eqb c.over-live.result 0) c.berth.inside.state).1)
+    ∙ (leave_stays (eqb c.over-live.result 0) c.berth.inside.state).1) refl
 
 pub returns-clause-found : goal.returns-clause-found
 returns-clause-found g c =

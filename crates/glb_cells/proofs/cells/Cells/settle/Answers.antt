@@ -9,7 +9,7 @@ use Rattle.glb_place.specs.Rows.{batch_row}
 use Rattle.glb_cells.specs.declared.view.View.{View}
 use Rattle.glb_cells.specs.Berths.{CellsView}
 use Rattle.glb_cells.specs.inner.Keeping.{IsBeside, table_of}
-use Rattle.glb_cells.proofs.BerthLemmas.Opened.{table_is, kept_is, object_is, program_is, params_are, may, still_of, makes, kept_now, found_now}
+use Rattle.glb_cells.proofs.BerthLemmas.Opened.{table_is, kept_is, object_is, program_is, params_are, may, is_free, still_free, makes, kept_now, found_now}
 use Rattle.glb_cells.proofs.BerthLemmas.There.{one_view}
 use Rattle.glb_cells.proofs.BerthLemmas.States.{settles_beside}
 use Rattle.glb_cells.proofs.cells.Cells.settle.Goals as goal
@@ -22,7 +22,7 @@ settle_as-before-requires-clause-table g c =
           (object_is c.args.self.now c.berth.inside.seat.me c.berth.inside.state
           c.berth.inside.counters c.berth.inside.held.items (table_of c.berth.inside.looks)
           c.berth.inside.seat.table_id c.args.berth.now c.berth.view_is c.berth.invariant
-          c.requires.here),
+          c.requires.here.here),
       omega (arith, w),
     )
 
@@ -31,7 +31,7 @@ settle_as-before-requires-clause-ready g c =
     let is = kept_is c.args.self.now c.berth.inside.seat.me c.berth.inside.state
     c.berth.inside.counters c.berth.inside.held.items (table_of c.berth.inside.looks)
     c.berth.inside.seat.table_id c.args.berth.now c.berth.view_is c.berth.invariant
-    c.requires.here in
+    c.requires.here.here in
     let m = subst (λ (z : g.row.P.Denot × Record g.row.P-Item.Denot). Expands
     (g.P.Program.children z.0) (g.P.Program.value z.0) g.P.Value.Monoid.combine z.1.local.bag
     g.P.Value.Monoid.unit c.args.done (g.B.Bag.items c.args.bag.now) c.args.gain.now)
@@ -39,16 +39,16 @@ settle_as-before-requires-clause-ready g c =
       sym (program_is c.args.self.now c.berth.inside.seat.me c.berth.inside.state
           c.berth.inside.counters c.berth.inside.held.items (table_of c.berth.inside.looks)
           c.berth.inside.seat.table_id c.args.berth.now c.berth.view_is c.berth.invariant
-          c.requires.here) i,
+          c.requires.here.here) i,
       is i,
     )) c.requires.moves in (
       c.berth.invariant.view,
       c.berth.invariant.me_is,
       (
-        c.berth.invariant.free,
+        is_free c.berth.invariant.me_is (ap (λ b. b.slot) c.berth.view_is ∙ c.requires.here.free),
         may c.args.self.now c.berth.inside.seat.me c.berth.inside.state c.berth.inside.counters
             c.berth.inside.held.items (table_of c.berth.inside.looks) c.berth.inside.seat.table_id
-            c.args.berth.now c.berth.view_is c.berth.invariant c.requires.here (λ p. event.Batch p)
+            c.args.berth.now c.berth.view_is c.berth.invariant c.requires.here.here (λ p. event.Batch p)
             c.requires.may,
         c.requires.batch.0,
         subst (λ (x : Record g.row.P-Item.Denot). c.args.done ≤ x.params.batch) is c.requires.batch.1,
@@ -68,7 +68,7 @@ invariant_of-berth g c =
     (sym (params_are c.args.self.now c.berth.inside.seat.me c.berth.inside.state
     c.berth.inside.counters c.berth.inside.held.items (table_of c.berth.inside.looks)
     c.berth.inside.seat.table_id c.args.berth.now c.berth.view_is c.berth.invariant
-    c.requires.here)) in
+    c.requires.here.here)) in
     let beside = settles_beside c.berth.invariant.view.own c.berth.inside.state
     c.berth.inside.counters c.berth.inside.held.items (table_of c.berth.inside.looks)
     c.berth.invariant.beside (c.settle_as-before.result + c.args.done) c.args.done c.len.result
@@ -78,7 +78,6 @@ invariant_of-berth g c =
     record {
       view = t.2.0;
       me_is = t.2.1;
-      free = t.2.2.2;
       beside = subst (λ (z : Record g.row.P-Item.Denot × PlaceState). IsBeside z.0 z.1
           c.count_items.new.counters c.berth.inside.held.items (table_of c.berth.inside.looks))
           (λ i. (
@@ -98,15 +97,15 @@ returns-clause-here g c =
     let at = (row ∙ ap (λ (v : View g.row.P.Denot g.row.P-Item.Denot). batch_row
     (c.settle_as-before.result + c.args.done) t.2.2.0.0 (g.B.Bag.items c.args.bag.now) v.own)
     (sym same)) in
-    still_of c.args.self.now c.berth.inside.seat.me c.berth.inside.state c.berth.inside.counters
+    still_free c.args.self.now c.berth.inside.seat.me c.berth.inside.state c.berth.inside.counters
     c.berth.inside.held.items (table_of c.berth.inside.looks) c.berth.inside.seat.table_id
-    c.args.berth.now c.berth.view_is c.berth.invariant c.requires.here
+    c.args.berth.now c.berth.view_is c.berth.invariant c.requires.here.here
     c.settle_as-before.new.seat.table_id c.settle_as-before.ensures.table.0
     c.settle_as-before.new.seat.me t.2.0 t.2.1 c.settle.new.state c.count_items.new.counters
     (t.2.2.1 ∙ ap (λ (v : View g.row.P.Denot g.row.P-Item.Denot). v.program) (sym same))
     (ap (λ (x : Record g.row.P-Item.Denot). x.lines) at)
     (ap (λ (x : Record g.row.P-Item.Denot). x.params) at)
-    (ap (λ (x : Record g.row.P-Item.Denot). x.place) at)
+    (ap (λ (x : Record g.row.P-Item.Denot). x.place) at) t.2.2.2
 
 pub returns-clause-makes : goal.returns-clause-makes
 returns-clause-makes g c =
@@ -115,10 +114,11 @@ returns-clause-makes g c =
     t.0 c.berth.invariant.me_is t.1 in
     makes c.args.self.now c.berth.inside.seat.me c.berth.inside.state c.berth.inside.counters
     c.berth.inside.held.items (table_of c.berth.inside.looks) c.berth.inside.seat.table_id
-    c.args.berth.now c.berth.view_is c.berth.invariant c.requires.here
+    c.args.berth.now c.berth.view_is c.berth.invariant c.requires.here.here
     c.settle_as-before.new.seat.table_id c.settle_as-before.ensures.table.0
     c.settle_as-before.new.seat.me t.2.0 t.2.1 c.settle.new.state c.count_items.new.counters 1
     (t.2.2.3 ∙ ap (λ (v : View g.row.P.Denot g.row.P-Item.Denot). v.steps + 1) (sym same))
+    (t.2.2.2 ∙ sym (is_free c.berth.invariant.me_is (ap (λ b. b.slot) c.berth.view_is ∙ c.requires.here.free)))
 
 pub returns-clause-kept : goal.returns-clause-kept
 returns-clause-kept g c =
@@ -134,16 +134,16 @@ returns-clause-kept g c =
           ∙ program_is c.args.self.now c.berth.inside.seat.me c.berth.inside.state
           c.berth.inside.counters c.berth.inside.held.items (table_of c.berth.inside.looks)
           c.berth.inside.seat.table_id c.args.berth.now c.berth.view_is c.berth.invariant
-          c.requires.here) i,
+          c.requires.here.here) i,
       (ap (λ (v : View g.row.P.Denot g.row.P-Item.Denot). v.own) (sym same)
           ∙ sym (kept_is c.args.self.now c.berth.inside.seat.me c.berth.inside.state
           c.berth.inside.counters c.berth.inside.held.items (table_of c.berth.inside.looks)
           c.berth.inside.seat.table_id c.args.berth.now c.berth.view_is c.berth.invariant
-          c.requires.here)) i,
+          c.requires.here.here)) i,
       kept_now c.args.self.now c.berth.inside.seat.me c.berth.inside.state
           c.berth.inside.counters c.berth.inside.held.items (table_of c.berth.inside.looks)
           c.berth.inside.seat.table_id c.args.berth.now c.berth.view_is c.berth.invariant
-          c.requires.here c.settle_as-before.new.seat.table_id c.settle_as-before.ensures.table.0
+          c.requires.here.here c.settle_as-before.new.seat.table_id c.settle_as-before.ensures.table.0
           c.settle_as-before.new.seat.me t.2.0 t.2.1 c.settle.new.state c.count_items.new.counters i,
     ))
     t.2.2.0
@@ -156,7 +156,7 @@ returns-clause-found g c =
     ap (λ n. n + c.args.done) (sym t.2.2.4 ∙ found_now c.args.self.now c.berth.inside.seat.me
     c.berth.inside.state c.berth.inside.counters c.berth.inside.held.items
     (table_of c.berth.inside.looks) c.berth.inside.seat.table_id c.args.berth.now
-    c.berth.view_is c.berth.invariant c.requires.here c.settle_as-before.new.seat.table_id
+    c.berth.view_is c.berth.invariant c.requires.here.here c.settle_as-before.new.seat.table_id
     c.settle_as-before.ensures.table.0 c.settle_as-before.new.seat.me t.2.0 t.2.1
     c.settle.new.state c.count_items.new.counters)
 

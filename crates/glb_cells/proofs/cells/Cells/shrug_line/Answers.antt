@@ -10,7 +10,7 @@ use Rattle.glb_place.specs.Rows.{shrug_row, known_row}
 use Rattle.glb_cells.specs.Words.{read}
 use Rattle.glb_cells.specs.Plays.{shrugged_line_at, left_at, shrugged_on}
 use Rattle.glb_cells.specs.inner.Keeping.{IsBeside, table_of}
-use Rattle.glb_cells.proofs.BerthLemmas.Opened.{turned, numbered, table_is, object_is, place_is, may_at, ends, still_of, moved, found_now}
+use Rattle.glb_cells.proofs.BerthLemmas.Opened.{turned, numbered, table_is, object_is, place_is, may_at, ends, is_free, still_free, moved, found_now}
 use Rattle.glb_cells.proofs.BerthLemmas.There.{not_true, not_false, there_shrug}
 use Rattle.glb_cells.proofs.BerthLemmas.Sizes.{neither}
 use Rattle.glb_cells.proofs.BerthLemmas.States.{shrugs_beside, unless_stays}
@@ -21,12 +21,12 @@ number-edge-requires-clause-thief g c =
     let m = may_at c.args.self.now c.berth.inside.seat.me c.berth.inside.state
     c.berth.inside.counters c.berth.inside.held.items (table_of c.berth.inside.looks)
     c.berth.inside.seat.table_id c.args.berth.now c.berth.view_is c.berth.invariant
-    c.requires.here (λ p. event.Shrug p c.args.victim kind.Line) c.requires.may in
+    c.requires.here.here (λ p. event.Shrug p c.args.victim kind.Line) c.requires.may in
     let there = there_shrug c.berth.invariant.view.own c.berth.invariant.beside.listed kind.Line
     c.berth.inside.state.place c.args.victim m in
     let e = ends c.args.self.now c.berth.inside.seat.me c.berth.inside.state c.berth.inside.counters
     c.berth.inside.held.items (table_of c.berth.inside.looks) c.berth.inside.seat.table_id
-    c.args.berth.now c.berth.view_is c.berth.invariant c.requires.here
+    c.args.berth.now c.berth.view_is c.berth.invariant c.requires.here.here
     (name_of kind.Line c.berth.inside.state.place c.args.victim) m.1.0 m.1.2 there in
     e.thief
 
@@ -35,12 +35,12 @@ number-edge-requires-clause-victim g c =
     let m = may_at c.args.self.now c.berth.inside.seat.me c.berth.inside.state
     c.berth.inside.counters c.berth.inside.held.items (table_of c.berth.inside.looks)
     c.berth.inside.seat.table_id c.args.berth.now c.berth.view_is c.berth.invariant
-    c.requires.here (λ p. event.Shrug p c.args.victim kind.Line) c.requires.may in
+    c.requires.here.here (λ p. event.Shrug p c.args.victim kind.Line) c.requires.may in
     let there = there_shrug c.berth.invariant.view.own c.berth.invariant.beside.listed kind.Line
     c.berth.inside.state.place c.args.victim m in
     let e = ends c.args.self.now c.berth.inside.seat.me c.berth.inside.state c.berth.inside.counters
     c.berth.inside.held.items (table_of c.berth.inside.looks) c.berth.inside.seat.table_id
-    c.args.berth.now c.berth.view_is c.berth.invariant c.requires.here
+    c.args.berth.now c.berth.view_is c.berth.invariant c.requires.here.here
     (name_of kind.Line c.berth.inside.state.place c.args.victim) m.1.0 m.1.2 there in
     e.victim
 
@@ -49,12 +49,12 @@ number-edge-requires-clause-there g c =
     let m = may_at c.args.self.now c.berth.inside.seat.me c.berth.inside.state
     c.berth.inside.counters c.berth.inside.held.items (table_of c.berth.inside.looks)
     c.berth.inside.seat.table_id c.args.berth.now c.berth.view_is c.berth.invariant
-    c.requires.here (λ p. event.Shrug p c.args.victim kind.Line) c.requires.may in
+    c.requires.here.here (λ p. event.Shrug p c.args.victim kind.Line) c.requires.may in
     let there = there_shrug c.berth.invariant.view.own c.berth.invariant.beside.listed kind.Line
     c.berth.inside.state.place c.args.victim m in
     let e = ends c.args.self.now c.berth.inside.seat.me c.berth.inside.state c.berth.inside.counters
     c.berth.inside.held.items (table_of c.berth.inside.looks) c.berth.inside.seat.table_id
-    c.args.berth.now c.berth.view_is c.berth.invariant c.requires.here
+    c.args.berth.now c.berth.view_is c.berth.invariant c.requires.here.here
     (name_of kind.Line c.berth.inside.state.place c.args.victim) m.1.0 m.1.2 there in
     e.there
 
@@ -69,7 +69,7 @@ shrug_as-word-requires-clause-table g c =
           (object_is c.args.self.now c.berth.inside.seat.me c.berth.inside.state
           c.berth.inside.counters c.berth.inside.held.items (table_of c.berth.inside.looks)
           c.berth.inside.seat.table_id c.args.berth.now c.berth.view_is c.berth.invariant
-          c.requires.here),
+          c.requires.here.here),
       n.small,
       n.few,
     )
@@ -86,26 +86,32 @@ shrug_as-word-requires-clause-ready g c =
     let m = may_at c.args.self.now c.berth.inside.seat.me c.berth.inside.state
     c.berth.inside.counters c.berth.inside.held.items (table_of c.berth.inside.looks)
     c.berth.inside.seat.table_id c.args.berth.now c.berth.view_is c.berth.invariant
-    c.requires.here (λ p. event.Shrug p c.args.victim kind.Line) c.requires.may in
+    c.requires.here.here (λ p. event.Shrug p c.args.victim kind.Line) c.requires.may in
     let there = there_shrug c.berth.invariant.view.own c.berth.invariant.beside.listed kind.Line
     c.berth.inside.state.place c.args.victim m in
     let e = ends c.args.self.now c.berth.inside.seat.me c.berth.inside.state c.berth.inside.counters
     c.berth.inside.held.items (table_of c.berth.inside.looks) c.berth.inside.seat.table_id
-    c.args.berth.now c.berth.view_is c.berth.invariant c.requires.here
-    (name_of kind.Line c.berth.inside.state.place c.args.victim) m.1.0 m.1.2 there in
-    (c.berth.invariant.view, c.berth.invariant.me_is, (c.berth.invariant.free, m))
+    c.args.berth.now c.berth.view_is c.berth.invariant c.requires.here.here
+    (name_of kind.Line c.berth.inside.state.place c.args.victim) m.1.0 m.1.2 there in (
+      c.berth.invariant.view,
+      c.berth.invariant.me_is,
+      (
+        is_free c.berth.invariant.me_is (ap (λ b. b.slot) c.berth.view_is ∙ c.requires.here.free),
+        m,
+      ),
+    )
 
 pub invariant_of-berth : goal.invariant_of-berth
 invariant_of-berth g c =
     let m = may_at c.args.self.now c.berth.inside.seat.me c.berth.inside.state
     c.berth.inside.counters c.berth.inside.held.items (table_of c.berth.inside.looks)
     c.berth.inside.seat.table_id c.args.berth.now c.berth.view_is c.berth.invariant
-    c.requires.here (λ p. event.Shrug p c.args.victim kind.Line) c.requires.may in
+    c.requires.here.here (λ p. event.Shrug p c.args.victim kind.Line) c.requires.may in
     let there = there_shrug c.berth.invariant.view.own c.berth.invariant.beside.listed kind.Line
     c.berth.inside.state.place c.args.victim m in
     let e = ends c.args.self.now c.berth.inside.seat.me c.berth.inside.state c.berth.inside.counters
     c.berth.inside.held.items (table_of c.berth.inside.looks) c.berth.inside.seat.table_id
-    c.args.berth.now c.berth.view_is c.berth.invariant c.requires.here
+    c.args.berth.now c.berth.view_is c.berth.invariant c.requires.here.here
     (name_of kind.Line c.berth.inside.state.place c.args.victim) m.1.0 m.1.2 there in
     record {
       view = (shrugged_on (name_of kind.Line c.berth.inside.state.place c.args.victim)
@@ -113,7 +119,6 @@ invariant_of-berth g c =
       me_is = (turned (shrugged_on (name_of kind.Line c.berth.inside.state.place c.args.victim)
           c.shrug_as-word.result) c.berth.inside.seat.me c.shrug_as-word.new.seat.me
           c.berth.invariant.view c.berth.invariant.me_is c.shrug_as-word.ensures.moved);
-      free = c.berth.invariant.free;
       beside = subst (λ (s : PlaceState). IsBeside
           (shrugged_line_at (name_of kind.Line c.berth.inside.state.place c.args.victim)
           c.shrug_as-word.result c.berth.invariant.view.own) s c.berth.inside.counters
@@ -125,9 +130,9 @@ invariant_of-berth g c =
 
 pub returns-clause-here : goal.returns-clause-here
 returns-clause-here g c =
-    still_of c.args.self.now c.berth.inside.seat.me c.berth.inside.state c.berth.inside.counters
+    still_free c.args.self.now c.berth.inside.seat.me c.berth.inside.state c.berth.inside.counters
     c.berth.inside.held.items (table_of c.berth.inside.looks) c.berth.inside.seat.table_id
-    c.args.berth.now c.berth.view_is c.berth.invariant c.requires.here
+    c.args.berth.now c.berth.view_is c.berth.invariant c.requires.here.here
     c.shrug_as-word.new.seat.table_id c.shrug_as-word.ensures.table.0
     c.shrug_as-word.new.seat.me ((shrugged_on
     (name_of kind.Line c.berth.inside.state.place c.args.victim) c.shrug_as-word.result)
@@ -138,6 +143,7 @@ returns-clause-here g c =
     c.berth.inside.counters refl (neither (λ (x : Record g.row.P-Item.Denot). x.lines) _ _ _ _
     refl refl) (neither (λ (x : Record g.row.P-Item.Denot). x.params) _ _ _ _ refl refl)
     (neither (λ (x : Record g.row.P-Item.Denot). x.place) _ _ _ _ refl refl)
+    (is_free c.berth.invariant.me_is (ap (λ b. b.slot) c.berth.view_is ∙ c.requires.here.free))
 
 pub returns-clause-shrugged : goal.returns-clause-shrugged
 returns-clause-shrugged g c =
@@ -151,10 +157,10 @@ returns-clause-shrugged g c =
     (sym (place_is c.args.self.now c.berth.inside.seat.me c.berth.inside.state
     c.berth.inside.counters c.berth.inside.held.items (table_of c.berth.inside.looks)
     c.berth.inside.seat.table_id c.args.berth.now c.berth.view_is c.berth.invariant
-    c.requires.here)) in (
+    c.requires.here.here)) in (
       moved c.args.self.now c.berth.inside.seat.me c.berth.inside.state c.berth.inside.counters
           c.berth.inside.held.items (table_of c.berth.inside.looks) c.berth.inside.seat.table_id
-          c.args.berth.now c.berth.view_is c.berth.invariant c.requires.here
+          c.args.berth.now c.berth.view_is c.berth.invariant c.requires.here.here
           c.shrug_as-word.new.seat.table_id c.shrug_as-word.ensures.table.0
           c.shrug_as-word.new.seat.me ((shrugged_on
           (name_of kind.Line c.berth.inside.state.place c.args.victim) c.shrug_as-word.result)
@@ -164,14 +170,14 @@ returns-clause-shrugged g c =
           c.berth.invariant.me_is c.shrug_as-word.ensures.moved) c.rest_unless.new.state
           c.berth.inside.counters 1 (shrug_row c.args.victim kind.Line) own refl
           (ap (λ (s : PlaceState). s.size) c.rest_unless.ensures
-          ∙ (unless_stays (eqb c.shrug_as-word.result 5) c.berth.inside.state).1),
+          ∙ (unless_stays (eqb c.shrug_as-word.result 5) c.berth.inside.state).1) refl,
       ⊎_elim (λ (z : c.shrug_as-word.result ≡ 5). absurd
           (true≢false (sym (eq-eqb c.shrug_as-word.result 5 z) ∙ five)))
           (λ (z : (c.shrug_as-word.result ≢ 5) × (read c.shrug_as-word.result ≡ seen.Refused)). ap
           read (sym (found_now c.args.self.now c.berth.inside.seat.me c.berth.inside.state
           c.berth.inside.counters c.berth.inside.held.items (table_of c.berth.inside.looks)
           c.berth.inside.seat.table_id c.args.berth.now c.berth.view_is c.berth.invariant
-          c.requires.here c.shrug_as-word.new.seat.table_id c.shrug_as-word.ensures.table.0
+          c.requires.here.here c.shrug_as-word.new.seat.table_id c.shrug_as-word.ensures.table.0
           c.shrug_as-word.new.seat.me ((shrugged_on
           (name_of kind.Line c.berth.inside.state.place c.args.victim) c.shrug_as-word.result)
           c.berth.invariant.view) (turned (shrugged_on
@@ -193,10 +199,10 @@ returns-clause-loot g c =
     (sym (place_is c.args.self.now c.berth.inside.seat.me c.berth.inside.state
     c.berth.inside.counters c.berth.inside.held.items (table_of c.berth.inside.looks)
     c.berth.inside.seat.table_id c.args.berth.now c.berth.view_is c.berth.invariant
-    c.requires.here)) in (
+    c.requires.here.here)) in (
       moved c.args.self.now c.berth.inside.seat.me c.berth.inside.state c.berth.inside.counters
           c.berth.inside.held.items (table_of c.berth.inside.looks) c.berth.inside.seat.table_id
-          c.args.berth.now c.berth.view_is c.berth.invariant c.requires.here
+          c.args.berth.now c.berth.view_is c.berth.invariant c.requires.here.here
           c.shrug_as-word.new.seat.table_id c.shrug_as-word.ensures.table.0
           c.shrug_as-word.new.seat.me ((shrugged_on
           (name_of kind.Line c.berth.inside.state.place c.args.victim) c.shrug_as-word.result)
@@ -206,11 +212,11 @@ returns-clause-loot g c =
           c.berth.invariant.me_is c.shrug_as-word.ensures.moved) c.rest_unless.new.state
           c.berth.inside.counters 1 (λ r. known_row (name_of kind.Line r.place c.args.victim)
           seen.Loot r) own refl (ap (λ (s : PlaceState). s.size) c.rest_unless.ensures
-          ∙ (unless_stays (eqb c.shrug_as-word.result 5) c.berth.inside.state).1),
+          ∙ (unless_stays (eqb c.shrug_as-word.result 5) c.berth.inside.state).1) refl,
       sym (found_now c.args.self.now c.berth.inside.seat.me c.berth.inside.state
           c.berth.inside.counters c.berth.inside.held.items (table_of c.berth.inside.looks)
           c.berth.inside.seat.table_id c.args.berth.now c.berth.view_is c.berth.invariant
-          c.requires.here c.shrug_as-word.new.seat.table_id c.shrug_as-word.ensures.table.0
+          c.requires.here.here c.shrug_as-word.new.seat.table_id c.shrug_as-word.ensures.table.0
           c.shrug_as-word.new.seat.me ((shrugged_on
           (name_of kind.Line c.berth.inside.state.place c.args.victim) c.shrug_as-word.result)
           c.berth.invariant.view) (turned (shrugged_on

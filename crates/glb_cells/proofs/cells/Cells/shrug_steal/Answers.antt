@@ -1,4 +1,4 @@
-use Rattle.std.proofs.Common.{refl, sym, ap, subst}
+use Rattle.std.proofs.Common.{refl, sym, ap, ◌∙◌, subst}
 use Rattle.glb_rules.specs.Events.{name_of}
 use Rattle.glb_rules.specs.declared.event.Event.TheVariants as event
 use Rattle.glb_rules.specs.declared.kinds.Kind.TheVariants as kind
@@ -6,7 +6,7 @@ use Rattle.glb_rules.specs.declared.place_state.PlaceState.{PlaceState}
 use Rattle.glb_place.specs.Rows.{shrug_row}
 use Rattle.glb_cells.specs.Plays.{given_up_at, given_up_on}
 use Rattle.glb_cells.specs.inner.Keeping.{IsBeside, table_of}
-use Rattle.glb_cells.proofs.BerthLemmas.Opened.{turned, numbered, table_is, object_is, place_is, may_at, ends, still_of, moved, found_now}
+use Rattle.glb_cells.proofs.BerthLemmas.Opened.{turned, numbered, table_is, object_is, place_is, may_at, ends, is_free, still_free, moved, found_now}
 use Rattle.glb_cells.proofs.BerthLemmas.There.{there_shrug}
 use Rattle.glb_cells.proofs.BerthLemmas.States.{gives_up_beside}
 use Rattle.glb_cells.proofs.cells.Cells.shrug_steal.Goals as goal
@@ -16,12 +16,12 @@ number-edge-requires-clause-thief g c =
     let m = may_at c.args.self.now c.berth.inside.seat.me c.berth.inside.state
     c.berth.inside.counters c.berth.inside.held.items (table_of c.berth.inside.looks)
     c.berth.inside.seat.table_id c.args.berth.now c.berth.view_is c.berth.invariant
-    c.requires.here (λ p. event.Shrug p c.args.victim kind.Steal) c.requires.may in
+    c.requires.here.here (λ p. event.Shrug p c.args.victim kind.Steal) c.requires.may in
     let there = there_shrug c.berth.invariant.view.own c.berth.invariant.beside.listed kind.Steal
     c.berth.inside.state.place c.args.victim m in
     let e = ends c.args.self.now c.berth.inside.seat.me c.berth.inside.state c.berth.inside.counters
     c.berth.inside.held.items (table_of c.berth.inside.looks) c.berth.inside.seat.table_id
-    c.args.berth.now c.berth.view_is c.berth.invariant c.requires.here
+    c.args.berth.now c.berth.view_is c.berth.invariant c.requires.here.here
     (name_of kind.Steal c.berth.inside.state.place c.args.victim) m.1.0 m.1.2 there in
     e.thief
 
@@ -30,12 +30,12 @@ number-edge-requires-clause-victim g c =
     let m = may_at c.args.self.now c.berth.inside.seat.me c.berth.inside.state
     c.berth.inside.counters c.berth.inside.held.items (table_of c.berth.inside.looks)
     c.berth.inside.seat.table_id c.args.berth.now c.berth.view_is c.berth.invariant
-    c.requires.here (λ p. event.Shrug p c.args.victim kind.Steal) c.requires.may in
+    c.requires.here.here (λ p. event.Shrug p c.args.victim kind.Steal) c.requires.may in
     let there = there_shrug c.berth.invariant.view.own c.berth.invariant.beside.listed kind.Steal
     c.berth.inside.state.place c.args.victim m in
     let e = ends c.args.self.now c.berth.inside.seat.me c.berth.inside.state c.berth.inside.counters
     c.berth.inside.held.items (table_of c.berth.inside.looks) c.berth.inside.seat.table_id
-    c.args.berth.now c.berth.view_is c.berth.invariant c.requires.here
+    c.args.berth.now c.berth.view_is c.berth.invariant c.requires.here.here
     (name_of kind.Steal c.berth.inside.state.place c.args.victim) m.1.0 m.1.2 there in
     e.victim
 
@@ -44,12 +44,12 @@ number-edge-requires-clause-there g c =
     let m = may_at c.args.self.now c.berth.inside.seat.me c.berth.inside.state
     c.berth.inside.counters c.berth.inside.held.items (table_of c.berth.inside.looks)
     c.berth.inside.seat.table_id c.args.berth.now c.berth.view_is c.berth.invariant
-    c.requires.here (λ p. event.Shrug p c.args.victim kind.Steal) c.requires.may in
+    c.requires.here.here (λ p. event.Shrug p c.args.victim kind.Steal) c.requires.may in
     let there = there_shrug c.berth.invariant.view.own c.berth.invariant.beside.listed kind.Steal
     c.berth.inside.state.place c.args.victim m in
     let e = ends c.args.self.now c.berth.inside.seat.me c.berth.inside.state c.berth.inside.counters
     c.berth.inside.held.items (table_of c.berth.inside.looks) c.berth.inside.seat.table_id
-    c.args.berth.now c.berth.view_is c.berth.invariant c.requires.here
+    c.args.berth.now c.berth.view_is c.berth.invariant c.requires.here.here
     (name_of kind.Steal c.berth.inside.state.place c.args.victim) m.1.0 m.1.2 there in
     e.there
 
@@ -64,7 +64,7 @@ give_up_as-requires-clause-table g c =
           (object_is c.args.self.now c.berth.inside.seat.me c.berth.inside.state
           c.berth.inside.counters c.berth.inside.held.items (table_of c.berth.inside.looks)
           c.berth.inside.seat.table_id c.args.berth.now c.berth.view_is c.berth.invariant
-          c.requires.here),
+          c.requires.here.here),
       n.small,
       n.few,
     )
@@ -81,26 +81,32 @@ give_up_as-requires-clause-ready g c =
     let m = may_at c.args.self.now c.berth.inside.seat.me c.berth.inside.state
     c.berth.inside.counters c.berth.inside.held.items (table_of c.berth.inside.looks)
     c.berth.inside.seat.table_id c.args.berth.now c.berth.view_is c.berth.invariant
-    c.requires.here (λ p. event.Shrug p c.args.victim kind.Steal) c.requires.may in
+    c.requires.here.here (λ p. event.Shrug p c.args.victim kind.Steal) c.requires.may in
     let there = there_shrug c.berth.invariant.view.own c.berth.invariant.beside.listed kind.Steal
     c.berth.inside.state.place c.args.victim m in
     let e = ends c.args.self.now c.berth.inside.seat.me c.berth.inside.state c.berth.inside.counters
     c.berth.inside.held.items (table_of c.berth.inside.looks) c.berth.inside.seat.table_id
-    c.args.berth.now c.berth.view_is c.berth.invariant c.requires.here
-    (name_of kind.Steal c.berth.inside.state.place c.args.victim) m.1.0 m.1.2 there in
-    (c.berth.invariant.view, c.berth.invariant.me_is, (c.berth.invariant.free, m))
+    c.args.berth.now c.berth.view_is c.berth.invariant c.requires.here.here
+    (name_of kind.Steal c.berth.inside.state.place c.args.victim) m.1.0 m.1.2 there in (
+      c.berth.invariant.view,
+      c.berth.invariant.me_is,
+      (
+        is_free c.berth.invariant.me_is (ap (λ b. b.slot) c.berth.view_is ∙ c.requires.here.free),
+        m,
+      ),
+    )
 
 pub invariant_of-berth : goal.invariant_of-berth
 invariant_of-berth g c =
     let m = may_at c.args.self.now c.berth.inside.seat.me c.berth.inside.state
     c.berth.inside.counters c.berth.inside.held.items (table_of c.berth.inside.looks)
     c.berth.inside.seat.table_id c.args.berth.now c.berth.view_is c.berth.invariant
-    c.requires.here (λ p. event.Shrug p c.args.victim kind.Steal) c.requires.may in
+    c.requires.here.here (λ p. event.Shrug p c.args.victim kind.Steal) c.requires.may in
     let there = there_shrug c.berth.invariant.view.own c.berth.invariant.beside.listed kind.Steal
     c.berth.inside.state.place c.args.victim m in
     let e = ends c.args.self.now c.berth.inside.seat.me c.berth.inside.state c.berth.inside.counters
     c.berth.inside.held.items (table_of c.berth.inside.looks) c.berth.inside.seat.table_id
-    c.args.berth.now c.berth.view_is c.berth.invariant c.requires.here
+    c.args.berth.now c.berth.view_is c.berth.invariant c.requires.here.here
     (name_of kind.Steal c.berth.inside.state.place c.args.victim) m.1.0 m.1.2 there in
     record {
       view = (given_up_on (name_of kind.Steal c.berth.inside.state.place c.args.victim) 2)
@@ -108,7 +114,6 @@ invariant_of-berth g c =
       me_is = (turned (given_up_on (name_of kind.Steal c.berth.inside.state.place c.args.victim) 2)
           c.berth.inside.seat.me c.give_up_as.new.seat.me c.berth.invariant.view
           c.berth.invariant.me_is c.give_up_as.ensures.moved);
-      free = c.berth.invariant.free;
       beside = subst (λ (s : PlaceState). IsBeside
           (given_up_at (name_of kind.Steal c.berth.inside.state.place c.args.victim)
           c.berth.invariant.view.own) s c.count_shrug.new.counters c.berth.inside.held.items
@@ -122,9 +127,9 @@ invariant_of-berth g c =
 
 pub returns-clause-here : goal.returns-clause-here
 returns-clause-here g c =
-    still_of c.args.self.now c.berth.inside.seat.me c.berth.inside.state c.berth.inside.counters
+    still_free c.args.self.now c.berth.inside.seat.me c.berth.inside.state c.berth.inside.counters
     c.berth.inside.held.items (table_of c.berth.inside.looks) c.berth.inside.seat.table_id
-    c.args.berth.now c.berth.view_is c.berth.invariant c.requires.here
+    c.args.berth.now c.berth.view_is c.berth.invariant c.requires.here.here
     c.give_up_as.new.seat.table_id c.give_up_as.ensures.table.0 c.give_up_as.new.seat.me
     ((given_up_on (name_of kind.Steal c.berth.inside.state.place c.args.victim) 2)
     c.berth.invariant.view) (turned (given_up_on
@@ -132,12 +137,13 @@ returns-clause-here g c =
     c.give_up_as.new.seat.me c.berth.invariant.view c.berth.invariant.me_is
     c.give_up_as.ensures.moved) c.rest_unless.new.state c.count_shrug.new.counters refl refl
     refl refl
+    (is_free c.berth.invariant.me_is (ap (λ b. b.slot) c.berth.view_is ∙ c.requires.here.free))
 
 pub returns-clause-moved : goal.returns-clause-moved
 returns-clause-moved g c =
     moved c.args.self.now c.berth.inside.seat.me c.berth.inside.state c.berth.inside.counters
     c.berth.inside.held.items (table_of c.berth.inside.looks) c.berth.inside.seat.table_id
-    c.args.berth.now c.berth.view_is c.berth.invariant c.requires.here
+    c.args.berth.now c.berth.view_is c.berth.invariant c.requires.here.here
     c.give_up_as.new.seat.table_id c.give_up_as.ensures.table.0 c.give_up_as.new.seat.me
     ((given_up_on (name_of kind.Steal c.berth.inside.state.place c.args.victim) 2)
     c.berth.invariant.view) (turned (given_up_on
@@ -149,14 +155,14 @@ returns-clause-moved g c =
     (sym (place_is c.args.self.now c.berth.inside.seat.me c.berth.inside.state
     c.berth.inside.counters c.berth.inside.held.items (table_of c.berth.inside.looks)
     c.berth.inside.seat.table_id c.args.berth.now c.berth.view_is c.berth.invariant
-    c.requires.here))) refl (ap (λ (s : PlaceState). s.size) c.rest_unless.ensures)
+    c.requires.here.here))) refl (ap (λ (s : PlaceState). s.size) c.rest_unless.ensures) refl
 
 pub returns-clause-found : goal.returns-clause-found
 returns-clause-found g c =
     sym (found_now c.args.self.now c.berth.inside.seat.me c.berth.inside.state
     c.berth.inside.counters c.berth.inside.held.items (table_of c.berth.inside.looks)
     c.berth.inside.seat.table_id c.args.berth.now c.berth.view_is c.berth.invariant
-    c.requires.here c.give_up_as.new.seat.table_id c.give_up_as.ensures.table.0
+    c.requires.here.here c.give_up_as.new.seat.table_id c.give_up_as.ensures.table.0
     c.give_up_as.new.seat.me ((given_up_on
     (name_of kind.Steal c.berth.inside.state.place c.args.victim) 2) c.berth.invariant.view)
     (turned (given_up_on (name_of kind.Steal c.berth.inside.state.place c.args.victim) 2)

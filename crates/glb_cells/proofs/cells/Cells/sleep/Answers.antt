@@ -36,7 +36,6 @@ invariant_of-berth g c =
       view = (slept_on c.sleep-live.result) c.berth.invariant.view;
       me_is = (turned (slept_on c.sleep-live.result) c.berth.inside.seat.me c.sleep-live.new.seat.me
           c.berth.invariant.view c.berth.invariant.me_is c.sleep-live.ensures.moved);
-      free = c.berth.invariant.free;
       beside = subst (λ (s : PlaceState). IsBeside (sleep_row c.berth.invariant.view.own) s
           c.count_sleep.new.counters c.berth.inside.held.items (table_of c.berth.inside.looks))
           (sym c.sleep.ensures) (sleeps_beside c.berth.invariant.view.own c.berth.inside.state
@@ -67,7 +66,7 @@ returns-clause-moved g c =
     (turned (slept_on c.sleep-live.result) c.berth.inside.seat.me c.sleep-live.new.seat.me
     c.berth.invariant.view c.berth.invariant.me_is c.sleep-live.ensures.moved) c.sleep.new.state
     c.count_sleep.new.counters 1 sleep_row refl refl
-    (ap (λ (s : PlaceState). s.size) c.sleep.ensures)
+    (ap (λ (s : PlaceState). s.size) c.sleep.ensures) refl
 
 pub returns-clause-found : goal.returns-clause-found
 returns-clause-found g c =

@@ -8,7 +8,7 @@ use Rattle.glb_cells.specs.declared.view.View.{View}
 use Rattle.glb_cells.specs.Plays.{took_at}
 use Rattle.glb_cells.specs.Berths.{size_after_take}
 use Rattle.glb_cells.specs.inner.Keeping.{IsBeside, table_of}
-use Rattle.glb_cells.proofs.BerthLemmas.Opened.{numbered, table_is, kept_is, object_is, program_is, place_is, may_at, size_was, ends, still_of, makes, kept_now}
+use Rattle.glb_cells.proofs.BerthLemmas.Opened.{numbered, table_is, kept_is, object_is, program_is, place_is, may_at, size_was, ends, is_free, still_free, makes, kept_now}
 use Rattle.glb_cells.proofs.BerthLemmas.There.{one_view, there_take}
 use Rattle.glb_cells.proofs.BerthLemmas.States.{taken_beside}
 use Rattle.glb_cells.proofs.cells.Cells.take.Goals as goal
@@ -18,12 +18,12 @@ number-edge-requires-clause-thief g c =
     let m = may_at c.args.self.now c.berth.inside.seat.me c.berth.inside.state
     c.berth.inside.counters c.berth.inside.held.items (table_of c.berth.inside.looks)
     c.berth.inside.seat.table_id c.args.berth.now c.berth.view_is c.berth.invariant
-    c.requires.here (λ p. event.Take p c.args.victim c.args.kind) c.requires.may in
+    c.requires.here.here (λ p. event.Take p c.args.victim c.args.kind) c.requires.may in
     let there = there_take c.berth.invariant.view.own c.berth.invariant.beside.listed c.args.kind
     c.berth.inside.state.place c.args.victim m in
     let e = ends c.args.self.now c.berth.inside.seat.me c.berth.inside.state c.berth.inside.counters
     c.berth.inside.held.items (table_of c.berth.inside.looks) c.berth.inside.seat.table_id
-    c.args.berth.now c.berth.view_is c.berth.invariant c.requires.here
+    c.args.berth.now c.berth.view_is c.berth.invariant c.requires.here.here
     (name_of c.args.kind c.berth.inside.state.place c.args.victim) m.1.0 m.1.2 there in
     e.thief
 
@@ -32,12 +32,12 @@ number-edge-requires-clause-victim g c =
     let m = may_at c.args.self.now c.berth.inside.seat.me c.berth.inside.state
     c.berth.inside.counters c.berth.inside.held.items (table_of c.berth.inside.looks)
     c.berth.inside.seat.table_id c.args.berth.now c.berth.view_is c.berth.invariant
-    c.requires.here (λ p. event.Take p c.args.victim c.args.kind) c.requires.may in
+    c.requires.here.here (λ p. event.Take p c.args.victim c.args.kind) c.requires.may in
     let there = there_take c.berth.invariant.view.own c.berth.invariant.beside.listed c.args.kind
     c.berth.inside.state.place c.args.victim m in
     let e = ends c.args.self.now c.berth.inside.seat.me c.berth.inside.state c.berth.inside.counters
     c.berth.inside.held.items (table_of c.berth.inside.looks) c.berth.inside.seat.table_id
-    c.args.berth.now c.berth.view_is c.berth.invariant c.requires.here
+    c.args.berth.now c.berth.view_is c.berth.invariant c.requires.here.here
     (name_of c.args.kind c.berth.inside.state.place c.args.victim) m.1.0 m.1.2 there in
     e.victim
 
@@ -46,12 +46,12 @@ number-edge-requires-clause-there g c =
     let m = may_at c.args.self.now c.berth.inside.seat.me c.berth.inside.state
     c.berth.inside.counters c.berth.inside.held.items (table_of c.berth.inside.looks)
     c.berth.inside.seat.table_id c.args.berth.now c.berth.view_is c.berth.invariant
-    c.requires.here (λ p. event.Take p c.args.victim c.args.kind) c.requires.may in
+    c.requires.here.here (λ p. event.Take p c.args.victim c.args.kind) c.requires.may in
     let there = there_take c.berth.invariant.view.own c.berth.invariant.beside.listed c.args.kind
     c.berth.inside.state.place c.args.victim m in
     let e = ends c.args.self.now c.berth.inside.seat.me c.berth.inside.state c.berth.inside.counters
     c.berth.inside.held.items (table_of c.berth.inside.looks) c.berth.inside.seat.table_id
-    c.args.berth.now c.berth.view_is c.berth.invariant c.requires.here
+    c.args.berth.now c.berth.view_is c.berth.invariant c.requires.here.here
     (name_of c.args.kind c.berth.inside.state.place c.args.victim) m.1.0 m.1.2 there in
     e.there
 
@@ -66,7 +66,7 @@ take_as-part-requires-clause-table g c =
           (object_is c.args.self.now c.berth.inside.seat.me c.berth.inside.state
           c.berth.inside.counters c.berth.inside.held.items (table_of c.berth.inside.looks)
           c.berth.inside.seat.table_id c.args.berth.now c.berth.view_is c.berth.invariant
-          c.requires.here),
+          c.requires.here.here),
       n.small,
       n.few,
     )
@@ -83,26 +83,32 @@ take_as-part-requires-clause-ready g c =
     let m = may_at c.args.self.now c.berth.inside.seat.me c.berth.inside.state
     c.berth.inside.counters c.berth.inside.held.items (table_of c.berth.inside.looks)
     c.berth.inside.seat.table_id c.args.berth.now c.berth.view_is c.berth.invariant
-    c.requires.here (λ p. event.Take p c.args.victim c.args.kind) c.requires.may in
+    c.requires.here.here (λ p. event.Take p c.args.victim c.args.kind) c.requires.may in
     let there = there_take c.berth.invariant.view.own c.berth.invariant.beside.listed c.args.kind
     c.berth.inside.state.place c.args.victim m in
     let e = ends c.args.self.now c.berth.inside.seat.me c.berth.inside.state c.berth.inside.counters
     c.berth.inside.held.items (table_of c.berth.inside.looks) c.berth.inside.seat.table_id
-    c.args.berth.now c.berth.view_is c.berth.invariant c.requires.here
-    (name_of c.args.kind c.berth.inside.state.place c.args.victim) m.1.0 m.1.2 there in
-    (c.berth.invariant.view, c.berth.invariant.me_is, (c.berth.invariant.free, m))
+    c.args.berth.now c.berth.view_is c.berth.invariant c.requires.here.here
+    (name_of c.args.kind c.berth.inside.state.place c.args.victim) m.1.0 m.1.2 there in (
+      c.berth.invariant.view,
+      c.berth.invariant.me_is,
+      (
+        is_free c.berth.invariant.me_is (ap (λ b. b.slot) c.berth.view_is ∙ c.requires.here.free),
+        m,
+      ),
+    )
 
 pub invariant_of-berth : goal.invariant_of-berth
 invariant_of-berth g c =
     let m = may_at c.args.self.now c.berth.inside.seat.me c.berth.inside.state
     c.berth.inside.counters c.berth.inside.held.items (table_of c.berth.inside.looks)
     c.berth.inside.seat.table_id c.args.berth.now c.berth.view_is c.berth.invariant
-    c.requires.here (λ p. event.Take p c.args.victim c.args.kind) c.requires.may in
+    c.requires.here.here (λ p. event.Take p c.args.victim c.args.kind) c.requires.may in
     let there = there_take c.berth.invariant.view.own c.berth.invariant.beside.listed c.args.kind
     c.berth.inside.state.place c.args.victim m in
     let e = ends c.args.self.now c.berth.inside.seat.me c.berth.inside.state c.berth.inside.counters
     c.berth.inside.held.items (table_of c.berth.inside.looks) c.berth.inside.seat.table_id
-    c.args.berth.now c.berth.view_is c.berth.invariant c.requires.here
+    c.args.berth.now c.berth.view_is c.berth.invariant c.requires.here.here
     (name_of c.args.kind c.berth.inside.state.place c.args.victim) m.1.0 m.1.2 there in
     let t = c.take_as-part.ensures.moved in
     let u = t.2.2 in
@@ -121,7 +127,6 @@ invariant_of-berth g c =
     record {
       view = u.0;
       me_is = u.1;
-      free = u.2.2;
       beside = subst (λ (z : Record g.row.P-Item.Denot × PlaceState). IsBeside z.0 z.1
           c.count_got.new.counters c.berth.inside.held.items (table_of c.berth.inside.looks))
           (λ i. (sym row i, sym c.take.ensures i)) beside;
@@ -132,12 +137,12 @@ returns-clause-here g c =
     let m = may_at c.args.self.now c.berth.inside.seat.me c.berth.inside.state
     c.berth.inside.counters c.berth.inside.held.items (table_of c.berth.inside.looks)
     c.berth.inside.seat.table_id c.args.berth.now c.berth.view_is c.berth.invariant
-    c.requires.here (λ p. event.Take p c.args.victim c.args.kind) c.requires.may in
+    c.requires.here.here (λ p. event.Take p c.args.victim c.args.kind) c.requires.may in
     let there = there_take c.berth.invariant.view.own c.berth.invariant.beside.listed c.args.kind
     c.berth.inside.state.place c.args.victim m in
     let e = ends c.args.self.now c.berth.inside.seat.me c.berth.inside.state c.berth.inside.counters
     c.berth.inside.held.items (table_of c.berth.inside.looks) c.berth.inside.seat.table_id
-    c.args.berth.now c.berth.view_is c.berth.invariant c.requires.here
+    c.args.berth.now c.berth.view_is c.berth.invariant c.requires.here.here
     (name_of c.args.kind c.berth.inside.state.place c.args.victim) m.1.0 m.1.2 there in
     let t = c.take_as-part.ensures.moved in
     let u = t.2.2 in
@@ -147,27 +152,27 @@ returns-clause-here g c =
     (name_of c.args.kind c.berth.inside.state.place c.args.victim)
     (g.B.Bag.items c.take_as-part.result) ((g.B.Bag.items c.take_as-part.result) ++
     v.own.local.bag) v.own) (sym same) in
-    still_of c.args.self.now c.berth.inside.seat.me c.berth.inside.state c.berth.inside.counters
+    still_free c.args.self.now c.berth.inside.seat.me c.berth.inside.state c.berth.inside.counters
     c.berth.inside.held.items (table_of c.berth.inside.looks) c.berth.inside.seat.table_id
-    c.args.berth.now c.berth.view_is c.berth.invariant c.requires.here
+    c.args.berth.now c.berth.view_is c.berth.invariant c.requires.here.here
     c.take_as-part.new.seat.table_id c.take_as-part.ensures.table.0 c.take_as-part.new.seat.me
     u.0 u.1 c.take.new.state c.count_got.new.counters (u.2.1
     ∙ ap (λ (v : View g.row.P.Denot g.row.P-Item.Denot). v.program) (sym same))
     (ap (λ (x : Record g.row.P-Item.Denot). x.lines) row)
     (ap (λ (x : Record g.row.P-Item.Denot). x.params) row)
-    (ap (λ (x : Record g.row.P-Item.Denot). x.place) row)
+    (ap (λ (x : Record g.row.P-Item.Denot). x.place) row) u.2.2
 
 pub returns-clause-makes : goal.returns-clause-makes
 returns-clause-makes g c =
     let m = may_at c.args.self.now c.berth.inside.seat.me c.berth.inside.state
     c.berth.inside.counters c.berth.inside.held.items (table_of c.berth.inside.looks)
     c.berth.inside.seat.table_id c.args.berth.now c.berth.view_is c.berth.invariant
-    c.requires.here (λ p. event.Take p c.args.victim c.args.kind) c.requires.may in
+    c.requires.here.here (λ p. event.Take p c.args.victim c.args.kind) c.requires.may in
     let there = there_take c.berth.invariant.view.own c.berth.invariant.beside.listed c.args.kind
     c.berth.inside.state.place c.args.victim m in
     let e = ends c.args.self.now c.berth.inside.seat.me c.berth.inside.state c.berth.inside.counters
     c.berth.inside.held.items (table_of c.berth.inside.looks) c.berth.inside.seat.table_id
-    c.args.berth.now c.berth.view_is c.berth.invariant c.requires.here
+    c.args.berth.now c.berth.view_is c.berth.invariant c.requires.here.here
     (name_of c.args.kind c.berth.inside.state.place c.args.victim) m.1.0 m.1.2 there in
     let t = c.take_as-part.ensures.moved in
     let u = t.2.2 in
@@ -179,22 +184,23 @@ returns-clause-makes g c =
     v.own.local.bag) v.own) (sym same) in
     makes c.args.self.now c.berth.inside.seat.me c.berth.inside.state c.berth.inside.counters
     c.berth.inside.held.items (table_of c.berth.inside.looks) c.berth.inside.seat.table_id
-    c.args.berth.now c.berth.view_is c.berth.invariant c.requires.here
+    c.args.berth.now c.berth.view_is c.berth.invariant c.requires.here.here
     c.take_as-part.new.seat.table_id c.take_as-part.ensures.table.0 c.take_as-part.new.seat.me
     u.0 u.1 c.take.new.state c.count_got.new.counters 2 (u.2.3
     ∙ ap (λ (v : View g.row.P.Denot g.row.P-Item.Denot). v.steps + 2) (sym same))
+    (u.2.2 ∙ sym (is_free c.berth.invariant.me_is (ap (λ b. b.slot) c.berth.view_is ∙ c.requires.here.free)))
 
 pub returns-clause-kept : goal.returns-clause-kept
 returns-clause-kept g c =
     let m = may_at c.args.self.now c.berth.inside.seat.me c.berth.inside.state
     c.berth.inside.counters c.berth.inside.held.items (table_of c.berth.inside.looks)
     c.berth.inside.seat.table_id c.args.berth.now c.berth.view_is c.berth.invariant
-    c.requires.here (λ p. event.Take p c.args.victim c.args.kind) c.requires.may in
+    c.requires.here.here (λ p. event.Take p c.args.victim c.args.kind) c.requires.may in
     let there = there_take c.berth.invariant.view.own c.berth.invariant.beside.listed c.args.kind
     c.berth.inside.state.place c.args.victim m in
     let e = ends c.args.self.now c.berth.inside.seat.me c.berth.inside.state c.berth.inside.counters
     c.berth.inside.held.items (table_of c.berth.inside.looks) c.berth.inside.seat.table_id
-    c.args.berth.now c.berth.view_is c.berth.invariant c.requires.here
+    c.args.berth.now c.berth.view_is c.berth.invariant c.requires.here.here
     (name_of c.args.kind c.berth.inside.state.place c.args.victim) m.1.0 m.1.2 there in
     let t = c.take_as-part.ensures.moved in
     let u = t.2.2 in
@@ -207,7 +213,7 @@ returns-clause-kept g c =
     sym (kept_now c.args.self.now c.berth.inside.seat.me c.berth.inside.state
     c.berth.inside.counters c.berth.inside.held.items (table_of c.berth.inside.looks)
     c.berth.inside.seat.table_id c.args.berth.now c.berth.view_is c.berth.invariant
-    c.requires.here c.take_as-part.new.seat.table_id c.take_as-part.ensures.table.0
+    c.requires.here.here c.take_as-part.new.seat.table_id c.take_as-part.ensures.table.0
     c.take_as-part.new.seat.me u.0 u.1 c.take.new.state c.count_got.new.counters) ∙ row
     ∙ ap (λ p. took_at (name_of c.args.kind p c.args.victim)
     (g.B.Bag.items c.take_as-part.result) ((g.B.Bag.items c.take_as-part.result) ++
@@ -215,13 +221,13 @@ returns-clause-kept g c =
     (sym (place_is c.args.self.now c.berth.inside.seat.me c.berth.inside.state
     c.berth.inside.counters c.berth.inside.held.items (table_of c.berth.inside.looks)
     c.berth.inside.seat.table_id c.args.berth.now c.berth.view_is c.berth.invariant
-    c.requires.here)) ∙ ap (λ (x : Record g.row.P-Item.Denot). take_row c.args.victim
+    c.requires.here.here)) ∙ ap (λ (x : Record g.row.P-Item.Denot). take_row c.args.victim
     c.args.kind (g.B.Bag.items c.take_as-part.result)
     ((g.B.Bag.items c.take_as-part.result) ++ x.local.bag) x)
     (sym (kept_is c.args.self.now c.berth.inside.seat.me c.berth.inside.state
     c.berth.inside.counters c.berth.inside.held.items (table_of c.berth.inside.looks)
     c.berth.inside.seat.table_id c.args.berth.now c.berth.view_is c.berth.invariant
-    c.requires.here))
+    c.requires.here.here))
 
 pub returns-clause-some : goal.returns-clause-some
 returns-clause-some g c =
@@ -232,12 +238,12 @@ returns-clause-fits g c =
     let m = may_at c.args.self.now c.berth.inside.seat.me c.berth.inside.state
     c.berth.inside.counters c.berth.inside.held.items (table_of c.berth.inside.looks)
     c.berth.inside.seat.table_id c.args.berth.now c.berth.view_is c.berth.invariant
-    c.requires.here (λ p. event.Take p c.args.victim c.args.kind) c.requires.may in
+    c.requires.here.here (λ p. event.Take p c.args.victim c.args.kind) c.requires.may in
     let there = there_take c.berth.invariant.view.own c.berth.invariant.beside.listed c.args.kind
     c.berth.inside.state.place c.args.victim m in
     let e = ends c.args.self.now c.berth.inside.seat.me c.berth.inside.state c.berth.inside.counters
     c.berth.inside.held.items (table_of c.berth.inside.looks) c.berth.inside.seat.table_id
-    c.args.berth.now c.berth.view_is c.berth.invariant c.requires.here
+    c.args.berth.now c.berth.view_is c.berth.invariant c.requires.here.here
     (name_of c.args.kind c.berth.inside.state.place c.args.victim) m.1.0 m.1.2 there in
     let t = c.take_as-part.ensures.moved in
     let u = t.2.2 in
@@ -252,7 +258,7 @@ returns-clause-fits g c =
     ∙ program_is c.args.self.now c.berth.inside.seat.me c.berth.inside.state
     c.berth.inside.counters c.berth.inside.held.items (table_of c.berth.inside.looks)
     c.berth.inside.seat.table_id c.args.berth.now c.berth.view_is c.berth.invariant
-    c.requires.here) t.2.0
+    c.requires.here.here) t.2.0
 
 pub returns-clause-size : goal.returns-clause-size
 returns-clause-size g c =
@@ -261,4 +267,4 @@ returns-clause-size g c =
     (sym (size_was c.args.self.now c.berth.inside.seat.me c.berth.inside.state
     c.berth.inside.counters c.berth.inside.held.items (table_of c.berth.inside.looks)
     c.berth.inside.seat.table_id c.args.berth.now c.berth.view_is c.berth.invariant
-    c.requires.here) i))
+    c.requires.here.here) i))
