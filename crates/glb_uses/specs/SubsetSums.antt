@@ -9,6 +9,10 @@ use Rattle.glb_laws.specs.Tree.{IsSmall, answer}
 use Rattle.glb_laws.specs.declared.sat_sum.SatSum.{SatSum}
 use Rattle.glb_uses.specs.declared.subset_sums.Undecided.{Undecided}
 
+-- no weight is chosen or left yet, and the whole target is missing
+abbrev pub undecided : ℕ → Undecided
+undecided target = record { next = 0; missing = target }
+
 -- the next weight is left, so that as much is missing
 abbrev pub left : Undecided → Undecided
 left x = record { next = x.next + 1; missing = x.missing }

@@ -2,8 +2,9 @@
 //! runs the first of them on threads: a copy of this folder is a start.
 #![tactic(auto)]
 
-ghost use Rattle.std.specs.Prelude.{◌≡◌, IfOk};
-ghost use Rattle.glb_uses.specs.SubsetSums.{sums};
+ghost use Rattle.std.specs.Prelude.{◌≡◌, [], ◌∷◌, ◌^◌, IfOk, IfErr};
+ghost use Rattle.glb_tree.specs.Runs.{HasCause};
+ghost use Rattle.glb_uses.specs.SubsetSums.{further, undecided, sums};
 
 pub mod greatest_first;
 pub mod stack_bag;
@@ -43,7 +44,9 @@ fn count_choices<R: Threads + Wait + Sync>(
     weights: Vec<u64>,
     target: u64,
 ) -> Result<Report<SatSum>, RunFault>
-    ensures { IfOk result (λ report. report.value ≡ sums weights.items target) }
+    ensures ok { IfOk result (λ report. report.value ≡ sums weights.items target) }
+    ensures fault { IfErr result
+        (HasCause (further weights.items) (undecided target ∷ []) (2 ^ 21)) }
 {
     let program = SubsetSums { weights };
     let root = program.root(target);

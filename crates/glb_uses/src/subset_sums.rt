@@ -1,5 +1,6 @@
 //! A program of its own: how many choices of some weights add up to a target.
-ghost use Rattle.glb_uses.specs.SubsetSums.{CountsSums};
+ghost use Rattle.std.specs.Prelude.{◌≡◌};
+ghost use Rattle.glb_uses.specs.SubsetSums.{CountsSums, undecided};
 
 use glb_laws::{NoMemory, Program, SatSum};
 
@@ -19,7 +20,8 @@ pub struct SubsetSums {
 impl SubsetSums {
     /// Nothing is decided. The answer of its tree is how many choices add up to the target.
     pub fn root(&self, target: u64) -> Undecided
-        ensures { CountsSums self.now.weights.items result target }
+        ensures root { result ≡ undecided target }
+        ensures answer { CountsSums self.now.weights.items result target }
     {
         Undecided {
             next: 0,
