@@ -185,13 +185,13 @@ module _ {Q I : Type 0} (cells : CellsView Q I) (program : Q) (params : Params) 
                 let x = some_member left p here in
                 ap (λ (r : Record I). r.params)
                 (get_or-map (λ (b : BerthView Q I). b.kept) left p x d here)
-                ∙ (all.each p x here).0.params ∙ params_same;
+                ∙ (all.each p x here).0.here.params ∙ params_same;
             lines_are = λ p d l.
                 let here : p < length left = omega (arith, length-map left (λ b. b.kept)) in
                 let x = some_member left p here in
                 ap (λ (r : Record I). r.lines)
                 (get_or-map (λ (b : BerthView Q I). b.kept) left p x d here)
-                ∙ (all.each p x here).0.lines ∙ lines_same;
+                ∙ (all.each p x here).0.here.lines ∙ lines_same;
           };
           left = gone;
         };
