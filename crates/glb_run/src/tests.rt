@@ -4,6 +4,7 @@ mod hand;
 mod listed;
 mod pairs;
 mod places;
+mod ranges;
 mod refusals;
 mod refused;
 mod reports;

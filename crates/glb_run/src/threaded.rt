@@ -56,7 +56,7 @@ fn queens_in_threads<'a, R: Threads + Wait + Sync, G: Gate + Sync>(
 }
 
 /// The tree of the four numbers of `uts`.
-fn uts_in_threads<'a, R: Threads + Wait + Sync, G: Gate + Sync>(
+pub(crate) fn uts_in_threads<'a, R: Threads + Wait + Sync, G: Gate + Sync>(
     rt: &R,
     alloc: Global,
     numbers: (u32, u32, u32, u32),
@@ -85,7 +85,7 @@ fn uts_in_threads<'a, R: Threads + Wait + Sync, G: Gate + Sync>(
     uts_bytes(alloc, numbers, order, outcome)
 }
 
-fn dist_in_threads<'a, R: Threads + Wait + Sync, G: Gate + Sync>(
+pub(crate) fn dist_in_threads<'a, R: Threads + Wait + Sync, G: Gate + Sync>(
     rt: &R,
     alloc: Global,
     graph: &'a Graph,
