@@ -149,7 +149,8 @@ module _ (weights : List ℕ) where
       ∙ capped-sum m (cond heavy 0 n)
       ∙ ap capped (sym (count-more weight rest x.missing))
 
-  -- so the answer of the root's tree is how many choices add up to the target
+  -- So the answer of the root's tree is how many choices add up to the target. The tree is looked at
+  -- so deep that it is whole within the limit, and that a step for each weight is left.
   pub counts_sums : (root : Undecided) (target : ℕ) → root.next ≡ 0 → root.missing ≡ target
       → CountsSums weights root target
   counts_sums root target first all limit small =

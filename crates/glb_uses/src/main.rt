@@ -27,7 +27,7 @@ use subset_sums::SubsetSums;
 use ways::on_threads;
 
 /// Four threads, each of which expands 64 items before it looks at its requests again. A tree of
-/// 20 weights has less than 2^21 nodes.
+/// 20 weights has less than 2^21 nodes; a program of yours wants a limit of its own.
 const PARAMS: Params = Params {
     places: 4,
     batch: 64,

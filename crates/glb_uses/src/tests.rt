@@ -13,6 +13,7 @@ use std::sync::Wait;
 use std::test::Fail;
 use std::thread::Threads;
 
+/// The limit is the size of the largest tree of the rows below.
 const PARAMS: Params = Params {
     places: 3,
     batch: 2,
