@@ -42,6 +42,8 @@ impl<'a, P: Program, G: Gate> Program for Gated<'a, P, G> {
 
     ghost value_proper = { λ gated x. P.value_proper gated.inner x };
 
+    // Part of the loop of a bag, as the step inside it is.
+    #[inline(always)]
     fn expand(&self, item: &P::Item, out: &mut Vec<P::Item>) -> Result<P::Value, NoMemory> {
         self.gate.pass();
         self.inner.expand(item, out)
@@ -57,6 +59,7 @@ impl<'a, P: Ranged, G: Gate> Ranged for Gated<'a, P, G> {
         self.inner.child(item, number)
     }
 
+    #[inline(always)]
     fn weigh(&self, item: &P::Item) -> Result<P::Value, NoMemory> {
         self.gate.pass();
         self.inner.weigh(item)
