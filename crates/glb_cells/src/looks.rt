@@ -7,6 +7,7 @@ ghost use Rattle.glb_cells.specs.inner.Raising.{raise_where};
 
 use glb_core::{Kind, Side};
 use glb_laws::NoMemory;
+use glb_place::APART;
 use std::alloc::Global;
 
 /// A number for each edge, by the place at its other end, one for live and one for stop.
@@ -30,10 +31,13 @@ fn raise(row: &mut Vec<u64>, other: u32)
     row[other as usize] = count.saturating_add(1);
 }
 
+/// A count for each place, on cache lines of their own.
 fn zeros(alloc: Global, places: u32) -> Result<Vec<u64>, NoMemory>
     ensures { IfOk result (λ v. v.items ≡ replicate places 0) }
 {
-    Ok(vec![in alloc; 0; places as usize]?)
+    let mut counts = vec![in alloc; 0; places as usize]?;
+    counts.reserve(APART / size_of::<u64>())?;
+    Ok(counts)
 }
 
 impl LookCounts {

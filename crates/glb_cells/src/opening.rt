@@ -18,6 +18,7 @@ use super::seats::deal;
 use glb_core::Params;
 use glb_cube::Lines;
 use glb_laws::{Bag, NoMemory, Program};
+use glb_place::APART;
 use std::alloc::Global;
 use std::snapshot::Snapshot;
 
@@ -39,6 +40,7 @@ fn empty_places<P: Program, B: Bag<P>>(alloc: Global, bags: &[B]) -> Result<Vec<
     for bag in bags {
         empty.push(bag.len() == 0)?;
     }
+    empty.reserve(APART)?;
     Ok(empty)
 }
 

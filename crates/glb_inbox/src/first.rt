@@ -15,6 +15,7 @@ use super::way::Way;
 use glb_core::{Edge, Kind};
 use glb_cube::Lines;
 use glb_laws::{Bag, NoMemory, Program};
+use glb_place::APART;
 use std::alloc::Global;
 
 fn edge_of(is_awake: bool, there: bool) -> Edge
@@ -114,6 +115,8 @@ pub fn first_lanes<P: Program, B: Bag<P>>(
     let mut lanes = Vec::with_capacity(alloc, 2 * places)?;
     add_lanes::<P, B>(&mut lanes, lines, bags, place, Kind::Steal)?;
     add_lanes::<P, B>(&mut lanes, lines, bags, place, Kind::Line)?;
+    // A lane has two counts of eight bytes, and more.
+    lanes.reserve(APART / 16)?;
     Ok(lanes)
 }
 

@@ -92,7 +92,7 @@ impl Program for Knap {
 
     ghost value = { λ _ pack. value_of pack };
 
-    // Part of the loop of a search, as the cap is: a call costs as much as the work itself.
+    // Part of the loop of a search, as the cap is, without a call.
     #[inline(always)]
     fn expand(&self, pack: &Pack, out: &mut Vec<Pack>) -> Result<Greatest, NoMemory> {
         let value = pack.worth();

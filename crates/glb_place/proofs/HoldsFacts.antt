@@ -16,7 +16,9 @@ use Rattle.glb_stats.specs.declared.counters.Counters.{Counters}
 use Rattle.glb_place.specs.declared.record.Record.{Record}
 use Rattle.glb_place.specs.Calls.{Settles}
 use Rattle.glb_place.specs.Places.{spare_items}
-use Rattle.glb_place.specs.inner.Standing.{Holds}
+use Rattle.glb_place.specs.declared.turn.Ended.{Ended}
+use Rattle.glb_place.specs.declared.holding.Holding.{Holding}
+use Rattle.glb_place.specs.inner.Standing.{Holds, HoldsAt, IsPlace}
 use Rattle.glb_laws.proofs.Cancelling.{cancels}
 
 module _ {X V : Type 0} {IsProper : V → Type 0} {unit : V} {combine : V → V → V}
@@ -231,3 +233,12 @@ module _ {B I V Q : Type 0} (items : B → List I) (fits : B → Q → Type 0) (
 -- a credit is One or Minted, and not both
 pub one_not_minted : (c : Credit) → c ≡ credit.One → c ≢ credit.Minted
 one_not_minted c e m = let d : credit.One ≡ credit.Minted = sym e ∙ m in cc
+
+-- a place holds what it does, whether it has ended or not
+pub holds_of_place : {B F V I Q : Type 0} (items : B → List I) (fits : B → Q → Type 0)
+    (value : Q → I → V) (unit : V) (combine : V → V → V) (program : F → Q) (kept : F → Record I)
+    (ended : Option Ended) (h : Holding B F V)
+    → IsPlace items fits value unit combine program kept ended h
+    → HoldsAt items fits value unit combine program kept h
+holds_of_place items fits value unit combine program kept None h stands = stands.holds
+holds_of_place items fits value unit combine program kept (Some e) h left = left.0

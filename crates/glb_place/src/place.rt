@@ -3,6 +3,7 @@ ghost use Rattle.std.specs.Prelude.{◌≡◌, ◌≢◌, ◌<◌, ◌++◌, ◌
 ghost use Rattle.glb_laws.specs.Expansion.{combined};
 ghost use Rattle.glb_rules.specs.Setups.{IsWithinLimits};
 ghost use Rattle.glb_core.specs.Counters.{counters_of};
+ghost use Rattle.glb_core.specs.Seen.{sight, first_sight, IsMadeFor};
 ghost use Rattle.glb_rules.specs.declared.kinds.Phase.TheVariants as phases;
 ghost use Rattle.glb_place.specs.Calls.{SameObject};
 ghost use Rattle.glb_place.specs.declared.turn.Turn.TheVariants as turns;
@@ -12,13 +13,14 @@ ghost use Rattle.glb_place.specs.Places.{SpareFits, KeepsSpare, spare_items};
 ghost use Rattle.glb_place.specs.Turns.{Answers, TurnLooks, NotHalted};
 ghost use Rattle.glb_place.specs.Views.{PlaceView, HasRead, ended_by, is_impatient};
 
+use crate::apart::APART;
 use crate::fabric::Fabric;
 use crate::first::first_holding;
 use crate::holding::Holding;
 use crate::play::take_turn;
 use crate::turn::{Ended, Turn};
-use crossbeam_utils::Backoff;
-use glb_core::{Params, Seen};
+use crossbeam_utils::{Backoff, CachePadded};
+use glb_core::{InEdge, OutEdge, Params, Seen};
 use glb_cube::Lines;
 use glb_laws::{Bag, Monoid, NoMemory, Program};
 use glb_stats::Counters;
@@ -26,29 +28,31 @@ use std::alloc::Global;
 use std::marker::Model;
 use std::sync::Wait;
 
-/// A place of a run over some fabric.
+/// A place of a run over some fabric. It shares no cache line with another in the same list, since
+/// each is played by a thread of its own.
 #[derive(Drop)]
 pub struct Place<P: Program, B: Bag<P>, F: Fabric<P, B>> {
-    held: Holding<B, F, P::Value>,
+    held: CachePadded<Holding<B, F, P::Value>>,
     ended: Option<Ended>,
 }
 
 impl<P: Program, B: Bag<P>, F: Fabric<P, B>> Model for Place<P, B, F> {
+    ghost use Rattle.crossbeam_utils.specs.Padded.{padded_value};
     ghost use Rattle.glb_place.specs.Views.{PlaceView};
     ghost use Rattle.glb_place.specs.inner.Standing.{IsPlace};
 
     ghost Value = { PlaceView B F P.Value };
 
     ghost view = { λ a. record {
-      fabric = a.held.fabric;
-      bag = a.held.bag;
-      spare = a.held.spare;
-      value = a.held.value;
+      fabric = (padded_value a.held).fabric;
+      bag = (padded_value a.held).bag;
+      spare = (padded_value a.held).spare;
+      value = (padded_value a.held).value;
       ended = a.ended;
     } };
 
     ghost invariant = { λ a. IsPlace B.items B.fits P.value P.Value.unit P.Value.combine F.program
-        F.kept a.ended a.held };
+        F.kept a.ended (padded_value a.held) };
 }
 
 /// What a place gives back.
@@ -60,6 +64,18 @@ pub struct Parts<V, B, F> {
     pub fabric: F,
     pub value: V,
     pub counters: Counters,
+}
+
+/// What a place sees before it has looked at anything, in lists on cache lines of their own.
+fn sight_apart(alloc: Global, number: u32, lines: &Lines) -> Result<Seen, NoMemory>
+    requires { number < lines.now.places }
+    ensures first { IfOk result (λ z. sight z ≡ first_sight lines.now number) }
+    ensures made { IfOk result (λ z. IsMadeFor lines.now number (sight z)) }
+{
+    let mut seen = Seen::new(alloc, number, lines)?;
+    seen.ins.reserve(APART / size_of::<InEdge>() + 1)?;
+    seen.outs.reserve(APART / size_of::<OutEdge>() + 1)?;
+    Ok(seen)
 }
 
 impl<P: Program, B: Bag<P>, F: Fabric<P, B>> Place<P, B, F> {
@@ -88,11 +104,12 @@ impl<P: Program, B: Bag<P>, F: Fabric<P, B>> Place<P, B, F> {
         ensures going { IfOk result (λ p. p.ended ≡ None) }
         ensures returned { IfErr result (λ e. (e.1 ≡ bag) × (e.2 ≡ fabric)) }
     {
-        match Seen::new(alloc, number, lines) {
+        match sight_apart(alloc, number, lines) {
             Ok(seen) => {
                 let _places = lines.places();
+                let held = first_holding::<P, B, F>(number, params, seen, bag, fabric);
                 Ok(Place {
-                    held: first_holding::<P, B, F>(number, params, seen, bag, fabric),
+                    held: CachePadded::new(held),
                     ended: None,
                 })
             }
@@ -171,12 +188,20 @@ impl<P: Program, B: Bag<P>, F: Fabric<P, B>> Place<P, B, F> {
         ensures gone { self.ended ≢ None → (F.kept result.fabric).local.phase ≡ phases.Gone }
         ensures read { (e : Ended) → self.ended ≡ Some e → HasRead e (F.kept result.fabric) }
     {
+        let Holding {
+            bag,
+            spare,
+            fabric,
+            value,
+            counters,
+            ..
+        } = self.held.into_inner();
         Parts {
-            bag: self.held.bag,
-            spare: self.held.spare,
-            fabric: self.held.fabric,
-            value: self.held.value,
-            counters: self.held.counters,
+            bag,
+            spare,
+            fabric,
+            value,
+            counters,
         }
     }
 }
