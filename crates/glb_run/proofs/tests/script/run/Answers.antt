@@ -1,4 +1,0 @@
-use Rattle.glb_run.proofs.tests.script.run.Goals as goal
-
-pub play-requires : goal.play-requires
-play-requires g c = c.in-Ok.ensures.fits c.args.program.now c.requires.fits
