@@ -118,6 +118,8 @@ impl<P: Program, B: Bag<P>, F: Fabric<P, B>> Place<P, B, F> {
     }
 
     /// Takes one turn. A place that is closed answers as before, and calls nothing.
+    // Part of the loop of `work`: nearly all turns are one look, and a call costs as much again.
+    #[inline(always)]
     pub fn turn(&mut self, rt: &impl Wait, program: &P) -> Turn
         requires program { program.now ≡ F.program self.old.fabric }
         ensures closed { (e : Ended) → self.old.ended ≡ Some e → (result ≡ turns.Closed e)

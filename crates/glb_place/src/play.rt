@@ -27,6 +27,8 @@ use glb_laws::{Bag, Monoid, Program};
 use std::sync::Wait;
 
 /// Does the event on which the place decided.
+// A call of its own, so that turns that only look have few registers to save.
+#[inline(never)]
 fn act<P: Program, B: Bag<P>, F: Fabric<P, B>>(
     held: &mut Holding<B, F, P::Value>,
     rt: &impl Wait,
@@ -67,6 +69,7 @@ fn act<P: Program, B: Bag<P>, F: Fabric<P, B>>(
 }
 
 /// Does what the place decides.
+#[inline(always)]
 fn go<P: Program, B: Bag<P>, F: Fabric<P, B>>(
     held: &mut Holding<B, F, P::Value>,
     rt: &impl Wait,
@@ -128,6 +131,7 @@ fn is_over<P: Program, B: Bag<P>, F: Fabric<P, B>>(
 }
 
 /// One turn of a place that is not closed.
+#[inline(always)]
 pub(crate) fn take_turn<P: Program, B: Bag<P>, F: Fabric<P, B>>(
     held: &mut Holding<B, F, P::Value>,
     rt: &impl Wait,

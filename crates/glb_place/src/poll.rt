@@ -161,6 +161,7 @@ fn poll_outs<P: Program, B: Bag<P>, F: Fabric<P, B>>(
 }
 
 /// Looks again at all that the place waits for.
+#[inline(never)]
 pub(crate) fn poll<P: Program, B: Bag<P>, F: Fabric<P, B>>(
     held: &mut Holding<B, F, P::Value>,
     rt: &impl Wait,
