@@ -10,7 +10,7 @@ in_lane_of-map : (n : ℕ) (f : ℕ → ℕ) (a : List ℕ) (j : ℕ) → length
 in_lane_of-map n f a j la h = get_or-map f a j 0 0 (omega arith)
 
 -- an operator on two vectors
-in_lane_of-zip2 : (n : ℕ) (f : ℕ → ℕ → ℕ) (a b : List ℕ) (j : ℕ) → length a ≡ n → length b ≡ n
+pub in_lane_of-zip2 : (n : ℕ) (f : ℕ → ℕ → ℕ) (a b : List ℕ) (j : ℕ) → length a ≡ n → length b ≡ n
     → j < n
     → slice_index (zip2 f a b) j ≡ f (slice_index a j) (slice_index b j)
 in_lane_of-zip2 n f a b j la lb h = get_or-zip2 f a b j 0 0 0 (omega arith) (omega arith)

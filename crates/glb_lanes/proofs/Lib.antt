@@ -1,3 +1,4 @@
 mod LanewiseOperators
 mod WordsAndRounds
 mod DigestOfOneBlock
+mod SharedWords

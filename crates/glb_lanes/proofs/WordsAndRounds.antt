@@ -1,11 +1,12 @@
 -- The 80 words of a block, laid out one after the other, and the rounds over them.
-use Rattle.std.proofs.Common.{◌≡◌, ◌≢◌, ℕ, ◌+◌, ◌-◌, ◌<◌, ◌≤◌, List, [], ◌∷◌, length, slice_index, slice_index_or, slice_set, refl, sym, ap, ◌∙◌, arith, inl, inr}
+use Rattle.std.proofs.Common.{◌≡◌, ◌≢◌, ℕ, zero, suc, ◌+◌, ◌-◌, ◌<◌, ◌≤◌, List, [], ◌∷◌, length, slice_index, slice_index_or, slice_set, refl, sym, ap, ◌∙◌, arith, inl, inr}
+use Rattle.std.proofs.Math.ListN.{get_or-map}
 use Rattle.std.proofs.lemmas.Bool.{cases_lt}
 use Rattle.std.proofs.lemmas.List.{get_or-set_same, get_or-set_other, length-map, map-set}
 use Rattle.sha1.specs.Sha1.{add32, next_word, schedule, rounds, round, round_fn, round_constant}
 use Rattle.std.specs.Int.{w32, rotate_left}
 use Rattle.sha1.proofs.Schedule.{slice_index-schedule_next, rounds_next}
-use Rattle.glb_lanes.specs.inner.Lanes.{lane, IsScheduled, HasRun}
+use Rattle.glb_lanes.specs.inner.Lanes.{lane, AreWords, IsScheduled, HasRun}
 
 -- one word more
 pub scheduled_more : (b : List ℕ) (words : List (List ℕ)) (t j : ℕ) (x : List ℕ) → length words
@@ -75,3 +76,19 @@ scheduled_at b words n k e held i lt = held i (omega (arith, e))
 pub scheduled_less : (b words : List ℕ) (n k : ℕ) → k ≤ n → IsScheduled b words n
     → IsScheduled b words k
 scheduled_less b words n k e held i lt = held i (omega (arith, e))
+
+-- one of five words
+pub word_of_five : (b : List ℕ) (five : List (List ℕ)) (t n k j : ℕ) → AreWords b (lane j five) t
+    → n ≡ t + k → k < 5 → slice_index (slice_index_or five k []) j ≡ slice_index (schedule b 64) n
+word_of_five b five t n k j held e k_lt =
+    sym (get_or-map (λ (v : List ℕ). slice_index v j) five k []) ∙ held k k_lt
+    ∙ ap (slice_index (schedule b 64)) (sym e)
+
+-- what holds of each of five words
+pub below_five : (P : ℕ → Type 0) → P 0 → P 1 → P 2 → P 3 → P 4 → (k : ℕ) → k < 5 → P k
+below_five P p0 p1 p2 p3 p4 zero h = p0
+below_five P p0 p1 p2 p3 p4 (suc zero) h = p1
+below_five P p0 p1 p2 p3 p4 (suc (suc zero)) h = p2
+below_five P p0 p1 p2 p3 p4 (suc (suc (suc zero))) h = p3
+below_five P p0 p1 p2 p3 p4 (suc (suc (suc (suc zero)))) h = p4
+below_five P p0 p1 p2 p3 p4 (suc (suc (suc (suc (suc k))))) h = absurd (omega arith)

@@ -19,6 +19,7 @@ pub(crate) fn twenty(_bytes: &[u8; 20])
 {}
 
 /// The digest in one lane.
+#[inline(always)]
 pub(crate) fn digest<const N: usize>(state: &[Simd<u32, N>; 5], place: usize) -> [u8; 20]
     requires { place < N }
     ensures { result ≡ digest_bytes (lane place state.now) 5 }

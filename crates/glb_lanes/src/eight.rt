@@ -4,10 +4,12 @@ ghost use Rattle.std.specs.Prelude.{◌≡◌, ℕ, List, ◌+◌, ◌^◌, ◌<
 ghost use Rattle.std.specs.Prelude.{length, slice_index, slice_index_or};
 ghost use Rattle.std.specs.Int.{w32, to_be_bytes};
 ghost use Rattle.sha1.specs.Sha1.{sha1, compress, initial_hash, padding, word_at, digest_bytes};
-ghost use Rattle.glb_lanes.specs.inner.Lanes.{lane, IsBlock};
+ghost use Rattle.glb_lanes.specs.inner.Lanes.{lane, AreWords, IsBlock, IsScheduled, HasRun};
+ghost use Rattle.glb_lanes.specs.inner.Rows.{IsShared};
 
 use super::bytes::{digest, twenty, word};
 use super::rounds::{add, choose_five, last_five, majority_five, parity_five};
+use super::row;
 use super::words::{lay_first, lay_next};
 use std::simd::u32x8;
 
@@ -118,6 +120,51 @@ fn blocks_of(parents: &[[u8; 20]; 8], numbers: &[u32; 8]) -> [u32x8; 16]
     ]
 }
 
+/// The five words from `t` on.
+#[inline(always)]
+fn five(words: &[u32x8; 80], t: usize) -> [u32x8; 5]
+    requires { t + 5 ≤ 80 }
+    ensures { (j : ℕ) → j < 8 → (b : List ℕ) → IsScheduled b (lane j words.now) (t + 5)
+        → AreWords b (lane j result) t }
+{
+    [
+        words[t],
+        words[t + 1],
+        words[t + 2],
+        words[t + 3],
+        words[t + 4],
+    ]
+}
+
+/// The working variables before the rounds: the initial hash value in each lane.
+#[inline(always)]
+fn initial() -> [u32x8; 5]
+    ensures { (j : ℕ) → j < 8 → lane j result ≡ initial_hash }
+{
+    [
+        u32x8::splat(0x6745_2301),
+        u32x8::splat(0xEFCD_AB89),
+        u32x8::splat(0x98BA_DCFE),
+        u32x8::splat(0x1032_5476),
+        u32x8::splat(0xC3D2_E1F0),
+    ]
+}
+
+/// The hash value in each lane after the rounds.
+#[inline(always)]
+fn after_rounds(v: [u32x8; 5]) -> [u32x8; 5]
+    ensures { (j : ℕ) → j < 8 → (b : List ℕ) → HasRun b (lane j v) 80
+        → lane j result ≡ compress initial_hash b }
+{
+    let first = initial();
+    let s0 = add(first[0], v[0]);
+    let s1 = add(first[1], v[1]);
+    let s2 = add(first[2], v[2]);
+    let s3 = add(first[3], v[3]);
+    let s4 = add(first[4], v[4]);
+    [s0, s1, s2, s3, s4]
+}
+
 /// The hash value after one block in each lane, from the initial one.
 fn compress(start: [u32x8; 16]) -> [u32x8; 5]
     ensures { (j : ℕ) → j < 8 → (b : List ℕ) → IsBlock b (lane j start)
@@ -128,37 +175,72 @@ fn compress(start: [u32x8; 16]) -> [u32x8; 5]
     'words: for t in 0..64 {
         lay_next(&mut words, t);
     }
-    let h0 = u32x8::splat(0x6745_2301);
-    let h1 = u32x8::splat(0xEFCD_AB89);
-    let h2 = u32x8::splat(0x98BA_DCFE);
-    let h3 = u32x8::splat(0x1032_5476);
-    let h4 = u32x8::splat(0xC3D2_E1F0);
-    let mut v = [h0, h1, h2, h3, h4];
+    let mut v = initial();
     'choose: for group in 0..4 {
-        let next = choose_five(v, &words, 5 * group);
+        let next = choose_five(v, five(&words, 5 * group));
         v = next;
     }
     'parity: for group in 4..8 {
-        let next = parity_five(v, &words, 5 * group);
+        let next = parity_five(v, five(&words, 5 * group));
         v = next;
     }
     'majority: for group in 8..12 {
-        let next = majority_five(v, &words, 5 * group);
+        let next = majority_five(v, five(&words, 5 * group));
         v = next;
     }
     'last: for group in 12..16 {
-        let next = last_five(v, &words, 5 * group);
+        let next = last_five(v, five(&words, 5 * group));
         v = next;
     }
-    let s0 = add(h0, v[0]);
-    let s1 = add(h1, v[1]);
-    let s2 = add(h2, v[2]);
-    let s3 = add(h3, v[3]);
-    let s4 = add(h4, v[4]);
-    [s0, s1, s2, s3, s4]
+    after_rounds(v)
+}
+
+/// The hash value after the blocks of eight numbers of which the first ends in three zero bits. The
+/// words that the blocks have in common are laid beside the rounds, which wait for none of them.
+fn compress_row(start: [u32; 80]) -> [u32x8; 5]
+    ensures { (j : ℕ) → j < 8 → (b : List ℕ) → IsShared b j start 16
+        → lane j result ≡ compress initial_hash b }
+{
+    let mut words = start;
+    let mut v = initial();
+    'choose: for group in 0..4 {
+        row::lay_five(&mut words, 5 * group);
+        let next = choose_five(v, row::joined_five(&words, 5 * group));
+        v = next;
+    }
+    'parity: for group in 4..8 {
+        row::lay_five(&mut words, 5 * group);
+        let next = parity_five(v, row::joined_five(&words, 5 * group));
+        v = next;
+    }
+    'majority: for group in 8..12 {
+        row::lay_five(&mut words, 5 * group);
+        let next = majority_five(v, row::joined_five(&words, 5 * group));
+        v = next;
+    }
+    row::lay_four(&mut words);
+    'last: for group in 12..16 {
+        let next = last_five(v, row::joined_five(&words, 5 * group));
+        v = next;
+    }
+    after_rounds(v)
+}
+
+/// The hash value of the parent followed by a number in each lane.
+fn hash_values(parent: &[u8; 20], first: u32) -> [u32x8; 5]
+    requires { first + 8 ≤ 2 ^ 32 }
+    ensures { (j : ℕ) → j < 8 → lane j result
+        ≡ compress initial_hash (parent.now ++ (to_be_bytes w32 (first + j) ++ padding 24)) }
+{
+    if first % 8 == 0 {
+        compress_row(row::first_words(parent, first))
+    } else {
+        compress(blocks(parent, first))
+    }
 }
 
 /// The digest in each lane.
+#[inline(always)]
 fn digests_of(state: &[u32x8; 5]) -> [[u8; 20]; 8]
     ensures { (j : ℕ) → j < 8
         → slice_index_or result j [] ≡ digest_bytes (lane j state.now) 5 }
@@ -180,7 +262,7 @@ pub fn children(parent: &[u8; 20], first: u32) -> [[u8; 20]; 8]
     ensures { (j : ℕ) → j < 8
         → slice_index_or result j [] ≡ sha1 (parent.now ++ to_be_bytes w32 (first + j)) }
 {
-    let state = compress(blocks(parent, first));
+    let state = hash_values(parent, first);
     digests_of(&state)
 }
 

@@ -4,7 +4,7 @@ ghost use Rattle.std.specs.Prelude.{◌≡◌, ℕ, List, ◌+◌, ◌^◌, ◌<
 ghost use Rattle.std.specs.Prelude.{length, slice_index, slice_index_or};
 ghost use Rattle.std.specs.Int.{w32, to_be_bytes};
 ghost use Rattle.sha1.specs.Sha1.{sha1, compress, initial_hash, padding, word_at, digest_bytes};
-ghost use Rattle.glb_lanes.specs.inner.Lanes.{lane, IsBlock};
+ghost use Rattle.glb_lanes.specs.inner.Lanes.{lane, AreWords, IsBlock, IsScheduled};
 
 use super::bytes::{digest, twenty, word};
 use super::rounds::{add, choose_five, last_five, majority_five, parity_five};
@@ -101,6 +101,22 @@ fn blocks_of(parents: &[[u8; 20]; 4], numbers: &[u32; 4]) -> [u32x4; 16]
     ]
 }
 
+/// The five words from `t` on.
+#[inline(always)]
+fn five(words: &[u32x4; 80], t: usize) -> [u32x4; 5]
+    requires { t + 5 ≤ 80 }
+    ensures { (j : ℕ) → j < 4 → (b : List ℕ) → IsScheduled b (lane j words.now) (t + 5)
+        → AreWords b (lane j result) t }
+{
+    [
+        words[t],
+        words[t + 1],
+        words[t + 2],
+        words[t + 3],
+        words[t + 4],
+    ]
+}
+
 /// The hash value after one block in each lane, from the initial one.
 fn compress(start: [u32x4; 16]) -> [u32x4; 5]
     ensures { (j : ℕ) → j < 4 → (b : List ℕ) → IsBlock b (lane j start)
@@ -116,24 +132,24 @@ fn compress(start: [u32x4; 16]) -> [u32x4; 5]
     let mut v = [h0, h1, h2, h3, h4];
     'choose: for group in 0..4 {
         lay_five(&mut words, 5 * group);
-        let next = choose_five(v, &words, 5 * group);
+        let next = choose_five(v, five(&words, 5 * group));
         v = next;
     }
     'parity: for group in 4..8 {
         lay_five(&mut words, 5 * group);
-        let next = parity_five(v, &words, 5 * group);
+        let next = parity_five(v, five(&words, 5 * group));
         v = next;
     }
     'majority: for group in 8..12 {
         lay_five(&mut words, 5 * group);
-        let next = majority_five(v, &words, 5 * group);
+        let next = majority_five(v, five(&words, 5 * group));
         v = next;
     }
     'words: for t in 60..64 {
         lay_next(&mut words, t);
     }
     'last: for group in 12..16 {
-        let next = last_five(v, &words, 5 * group);
+        let next = last_five(v, five(&words, 5 * group));
         v = next;
     }
     let s0 = add(h0, v[0]);

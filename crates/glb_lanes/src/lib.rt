@@ -6,6 +6,7 @@ mod bytes;
 pub mod eight;
 pub mod four;
 mod rounds;
+mod row;
 #[cfg(test)]
 mod tests;
 mod words;

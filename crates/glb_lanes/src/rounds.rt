@@ -3,7 +3,7 @@
 ghost use Rattle.std.specs.Prelude.{◌≡◌, ℕ, List, ◌+◌, ◌<◌, ◌≤◌, slice_index};
 ghost use Rattle.std.specs.Int.{w32, rotate_left};
 ghost use Rattle.sha1.specs.Sha1.{ch, parity, maj, round, rounds, add32};
-ghost use Rattle.glb_lanes.specs.inner.Lanes.{lane, IsScheduled, HasRun};
+ghost use Rattle.glb_lanes.specs.inner.Lanes.{lane, AreWords, HasRun};
 
 use std::simd::Simd;
 
@@ -110,75 +110,63 @@ fn last_step<const N: usize>(v: [Simd<u32, N>; 5], word: Simd<u32, N>) -> [Simd<
     round(v, f, LAST, word)
 }
 
-/// Five rounds from `t` on: after five the variables are in their places again, so a loop needs no
-/// moves.
+/// Five rounds: after five the variables are in their places again, so a loop needs no moves.
 #[inline(always)]
 pub(crate) fn choose_five<const N: usize>(
     v: [Simd<u32, N>; 5],
-    words: &[Simd<u32, N>; 80],
-    t: usize,
+    words: [Simd<u32, N>; 5],
 ) -> [Simd<u32, N>; 5]
-    requires { t ≤ 15 }
-    ensures { (j : ℕ) → j < N → (b : List ℕ) → IsScheduled b (lane j words.now) (t + 5)
+    ensures { (j t : ℕ) → j < N → t ≤ 15 → (b : List ℕ) → AreWords b (lane j words.entry) t
         → HasRun b (lane j v.entry) t → HasRun b (lane j result) (t + 5) }
 {
-    let v1 = choose_step(v, words[t]);
-    let v2 = choose_step(v1, words[t + 1]);
-    let v3 = choose_step(v2, words[t + 2]);
-    let v4 = choose_step(v3, words[t + 3]);
-    choose_step(v4, words[t + 4])
+    let v1 = choose_step(v, words[0]);
+    let v2 = choose_step(v1, words[1]);
+    let v3 = choose_step(v2, words[2]);
+    let v4 = choose_step(v3, words[3]);
+    choose_step(v4, words[4])
 }
 
 #[inline(always)]
 pub(crate) fn parity_five<const N: usize>(
     v: [Simd<u32, N>; 5],
-    words: &[Simd<u32, N>; 80],
-    t: usize,
+    words: [Simd<u32, N>; 5],
 ) -> [Simd<u32, N>; 5]
-    requires low { 20 ≤ t }
-    requires high { t ≤ 35 }
-    ensures { (j : ℕ) → j < N → (b : List ℕ) → IsScheduled b (lane j words.now) (t + 5)
+    ensures { (j t : ℕ) → j < N → 20 ≤ t → t ≤ 35 → (b : List ℕ) → AreWords b (lane j words.entry) t
         → HasRun b (lane j v.entry) t → HasRun b (lane j result) (t + 5) }
 {
-    let v1 = parity_step(v, words[t]);
-    let v2 = parity_step(v1, words[t + 1]);
-    let v3 = parity_step(v2, words[t + 2]);
-    let v4 = parity_step(v3, words[t + 3]);
-    parity_step(v4, words[t + 4])
+    let v1 = parity_step(v, words[0]);
+    let v2 = parity_step(v1, words[1]);
+    let v3 = parity_step(v2, words[2]);
+    let v4 = parity_step(v3, words[3]);
+    parity_step(v4, words[4])
 }
 
 #[inline(always)]
 pub(crate) fn majority_five<const N: usize>(
     v: [Simd<u32, N>; 5],
-    words: &[Simd<u32, N>; 80],
-    t: usize,
+    words: [Simd<u32, N>; 5],
 ) -> [Simd<u32, N>; 5]
-    requires low { 40 ≤ t }
-    requires high { t ≤ 55 }
-    ensures { (j : ℕ) → j < N → (b : List ℕ) → IsScheduled b (lane j words.now) (t + 5)
+    ensures { (j t : ℕ) → j < N → 40 ≤ t → t ≤ 55 → (b : List ℕ) → AreWords b (lane j words.entry) t
         → HasRun b (lane j v.entry) t → HasRun b (lane j result) (t + 5) }
 {
-    let v1 = majority_step(v, words[t]);
-    let v2 = majority_step(v1, words[t + 1]);
-    let v3 = majority_step(v2, words[t + 2]);
-    let v4 = majority_step(v3, words[t + 3]);
-    majority_step(v4, words[t + 4])
+    let v1 = majority_step(v, words[0]);
+    let v2 = majority_step(v1, words[1]);
+    let v3 = majority_step(v2, words[2]);
+    let v4 = majority_step(v3, words[3]);
+    majority_step(v4, words[4])
 }
 
 #[inline(always)]
 pub(crate) fn last_five<const N: usize>(
     v: [Simd<u32, N>; 5],
-    words: &[Simd<u32, N>; 80],
-    t: usize,
+    words: [Simd<u32, N>; 5],
 ) -> [Simd<u32, N>; 5]
-    requires low { 60 ≤ t }
-    requires high { t ≤ 75 }
-    ensures { (j : ℕ) → j < N → (b : List ℕ) → IsScheduled b (lane j words.now) (t + 5)
+    ensures { (j t : ℕ) → j < N → 60 ≤ t → (b : List ℕ) → AreWords b (lane j words.entry) t
         → HasRun b (lane j v.entry) t → HasRun b (lane j result) (t + 5) }
 {
-    let v1 = last_step(v, words[t]);
-    let v2 = last_step(v1, words[t + 1]);
-    let v3 = last_step(v2, words[t + 2]);
-    let v4 = last_step(v3, words[t + 3]);
-    last_step(v4, words[t + 4])
+    let v1 = last_step(v, words[0]);
+    let v2 = last_step(v1, words[1]);
+    let v3 = last_step(v2, words[2]);
+    let v4 = last_step(v3, words[3]);
+    last_step(v4, words[4])
 }

@@ -1,8 +1,10 @@
 -- Children that are asked for by parent and number.
-use Rattle.std.proofs.Common.{◌≡◌, ℕ, ◌+◌, ◌^◌, ◌<◌, ◌≤◌, Bool, true, false, cond, nat_le, nat_lt, List, [], ◌∷◌, ◌++◌, length, map, get_or, Some, slice_get, refl, sym, ap, ap₂, ◌∙◌, arith, take, drop, set, inl, inr, append_assoc, append-nil, length-append, length-drop, length-take, take-add}
+use Rattle.std.proofs.Common.{◌≡◌, ℕ, ◌+◌, ◌^◌, ◌<◌, ◌≤◌, Bool, true, false, not, cond, nat_eq, nat_le, nat_lt, List, [], ◌∷◌, ◌++◌, length, map, get_or, Some, slice_get, refl, sym, ap, ap₂, ◌∙◌, arith, take, drop, set, inl, inr, append_assoc, append-nil, length-append, length-drop, length-take, take-add}
 use Rattle.std.specs.List.{All}
 use Rattle.std.proofs.lemmas.List.{take_more_set, take_more, map-append, get_or-set_other, get_or-set_same, get_or_default, take_at, take_all, drop_all, length-map}
 use Rattle.std.proofs.lemmas.Bool.{cases_lt}
+use Rattle.std.specs.Cmp.Lexicographic.{same_text}
+use lib.Pointwise.{pointwise}
 use borrow.Rule.Slice.PartMut.{put_mid}
 use Rattle.std.proofs.lemmas.List.FromFn.{get_or-map-range_with_len}
 use Rattle.std.proofs.lemmas.List.Elements.{All-head, All-tail}
@@ -106,6 +108,35 @@ one_more_filled f asked into d i e lt lt' read before k a less is = elim (cases_
       ∙ get_or-set_same into i (f e) d lt'
       ∙ ap f (read ∙ get_or_default asked i e a lt ∙ ap (λ j. get_or asked j a) (sym here)
       ∙ sym is)
+]
+
+-- two texts that do not differ
+pub not_other : (xs ys : List ℕ) → false ≡ not (pointwise nat_eq xs ys) → xs ≡ ys
+not_other xs ys e = same_text xs ys (part (pointwise nat_eq xs ys) e)
+  where
+    part : (b : Bool) → false ≡ not b → true ≡ b
+    part true e = refl
+    part false e = absurd (cc)
+
+-- one more child of a row
+pub one_more_in_row : (asked : List (Node × ℕ)) (i : ℕ) (none : Node × ℕ) → i < length asked
+    → (get_or asked i none).0.descriptor ≡ (get_or asked 0 none).0.descriptor
+    → (get_or asked i none).1 ≡ (get_or asked 0 none).1 + i
+    → ((k : ℕ) (a b : Node × ℕ) → k < i → a ≡ get_or asked k a → b ≡ get_or asked 0 b
+    → (a.0.descriptor ≡ b.0.descriptor) × (a.1 ≡ b.1 + k))
+    → (k : ℕ) (a b : Node × ℕ) → k < i + 1 → a ≡ get_or asked k a → b ≡ get_or asked 0 b
+    → (a.0.descriptor ≡ b.0.descriptor) × (a.1 ≡ b.1 + k)
+one_more_in_row asked i none lt same next before k a b less is first = elim (cases_lt k i) [
+  | inl below ↦ before k a b below is first
+  | inr above ↦
+      let here : k ≡ i = omega arith in
+      let last : a ≡ get_or asked i none =
+      is ∙ ap (λ j. get_or asked j a) here ∙ get_or_default asked i a none lt in
+      let head : b ≡ get_or asked 0 none =
+      first ∙ get_or_default asked 0 b none (omega arith) in (
+        ap (λ x. x.0.descriptor) last ∙ same ∙ ap (λ x. x.0.descriptor) (sym head),
+        ap (λ x. x.1) last ∙ next ∙ ap₂ (λ x n. x.1 + n) (sym head) (sym here),
+      )
 ]
 
 -- a part of a row is written behind what is written already

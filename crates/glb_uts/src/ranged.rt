@@ -1,6 +1,6 @@
 //! The children of nodes by their numbers, hashed side by side also where their parents differ.
-ghost use Rattle.std.specs.Prelude.{◌≡◌, ◌+◌, ◌^◌, ◌<◌, ◌≤◌, All, length, map};
-ghost use Rattle.glb_uts.specs.inner.Siblings.{child_of, IsWithin, HaveDescriptors};
+ghost use Rattle.std.specs.Prelude.{◌≡◌, ◌+◌, ◌^◌, ◌<◌, ◌≤◌, All, IsTrue, length, map};
+ghost use Rattle.glb_uts.specs.inner.Siblings.{child_of, IsWithin, IsRow, HaveDescriptors};
 
 use super::node::Node;
 use super::uts::{Uts, node_value};
@@ -37,10 +37,55 @@ fn make_all(asked: &[(Node, u64)], into: &mut [Node])
     let groups = asked.len() / 8;
     'groups: for group in 0..groups {
         let from = 8 * group;
-        make_eight(&asked[from..from + 8], &mut into[from..from + 8]);
+        make_group(&asked[from..from + 8], &mut into[from..from + 8]);
     }
     let from = 8 * groups;
     make_rest(&asked[from..], &mut into[from..]);
+}
+
+/// Makes eight children. Those of one parent by numbers in a row have most of their work in common.
+fn make_group(asked: &[(Node, u64)], into: &mut [Node])
+    requires eight { length asked.now ≡ 8 }
+    requires lengths { length asked.now ≡ length into.old }
+    requires within { All IsWithin asked.now }
+    ensures { into.new ≡ map child_of asked.now }
+{
+    if is_row(asked) {
+        make_row(asked, into);
+    } else {
+        make_eight(asked, into);
+    }
+}
+
+/// Whether children are those of one parent by numbers in a row.
+#[inline(always)]
+fn is_row(asked: &[(Node, u64)]) -> bool
+    requires some { 0 < length asked.now }
+    requires few { length asked.now ≤ 8 }
+    requires within { All IsWithin asked.now }
+    ensures { IsTrue result → IsRow asked.now }
+{
+    let (parent, first) = &asked[0];
+    'row: for i in 1..asked.len() {
+        let (node, number) = &asked[i];
+        if node.descriptor != parent.descriptor || *number != *first + i as u64 {
+            return false;
+        }
+    }
+    true
+}
+
+/// Makes eight children of one parent.
+fn make_row(asked: &[(Node, u64)], into: &mut [Node])
+    requires eight { length asked.now ≡ 8 }
+    requires lengths { length asked.now ≡ length into.old }
+    requires within { All IsWithin asked.now }
+    requires row { IsRow asked.now }
+    ensures { into.new ≡ map child_of asked.now }
+{
+    let (parent, first) = &asked[0];
+    let descriptors = eight::children(&parent.descriptor, *first as u32);
+    put_nodes(asked, &descriptors, into);
 }
 
 /// Four lanes take about half as long as eight, and little longer than one hash alone.

@@ -8,8 +8,7 @@ pub returns : goal.returns
 returns c j lt =
     let parent : List ℕ = c.args.parent.now in
     let number : List ℕ = to_be_bytes w32 (c.args.first + j) in
-    let state = c.compress-state.result in
+    let state = c.hash_values-state.result in
     let long : length parent ≡ 20 = omega arith in
     c.digests_of.ensures j lt
-    ∙ sha1_24 parent number (lane j state) long refl
-    (c.compress-state.ensures j lt _ (c.blocks-2.ensures j lt))
+    ∙ sha1_24 parent number (lane j state) long refl (c.hash_values-state.ensures j lt)

@@ -26,7 +26,8 @@ choose-preserved c j lt b is =
     let laid = scheduled_less b _ (5 * c.choose.group + 21) (5 * c.choose.group + 5)
     (omega arith) more in (
       scheduled_at b _ _ _ (omega arith) more,
-      run_at b _ _ _ (omega arith) (c.choose_five-next.ensures j lt b laid held.1),
+      run_at b _ _ _ (omega arith) (c.choose_five-next.ensures j (5 * c.choose.group) lt (omega arith) b
+          (c.five.ensures j lt b laid) held.1),
     )
 
 pub parity-init : goal.parity-init
@@ -41,7 +42,8 @@ parity-preserved c j lt b is =
     let laid = scheduled_less b _ (5 * c.parity.group + 21) (5 * c.parity.group + 5)
     (omega arith) more in (
       scheduled_at b _ _ _ (omega arith) more,
-      run_at b _ _ _ (omega arith) (c.parity_five-next.ensures j lt b laid held.1),
+      run_at b _ _ _ (omega arith) (c.parity_five-next.ensures j (5 * c.parity.group) lt (omega arith) (omega arith) b
+          (c.five-in-parity.ensures j lt b laid) held.1),
     )
 
 pub majority-init : goal.majority-init
@@ -56,7 +58,8 @@ majority-preserved c j lt b is =
     let laid = scheduled_less b _ (5 * c.majority.group + 21) (5 * c.majority.group + 5)
     (omega arith) more in (
       scheduled_at b _ _ _ (omega arith) more,
-      run_at b _ _ _ (omega arith) (c.majority_five-next.ensures j lt b laid held.1),
+      run_at b _ _ _ (omega arith) (c.majority_five-next.ensures j (5 * c.majority.group) lt (omega arith) (omega arith) b
+          (c.five-in-majority.ensures j lt b laid) held.1),
     )
 
 pub words-init : goal.words-init
@@ -73,7 +76,8 @@ pub last-preserved : goal.last-preserved
 last-preserved c j lt b is =
     let laid = scheduled_less b _ (c.words.t + 16) (5 * c.last.group + 5) (omega arith)
     (c.words.invariant j lt b is) in
-    run_at b _ _ _ (omega arith) (c.last_five-next.ensures j lt b laid (c.last.invariant j lt b is))
+    run_at b _ _ _ (omega arith) (c.last_five-next.ensures j (5 * c.last.group) lt (omega arith) b
+    (c.five-in-last.ensures j lt b laid) (c.last.invariant j lt b is))
 
 pub returns : goal.returns
 unfolding compress

@@ -9,8 +9,8 @@ groups-preserved c =
     let from : ℕ = 8 * c.groups.group in
     let count : ℕ = from + 8 - from in
     let next : 8 * (c.groups.group + 1) ≡ from + count = omega arith in
-    let part = part_written child_of asked c.groups.into c.make_eight.new.into from count count
-    (omega arith) (omega arith) (omega arith) c.groups.invariant c.make_eight.ensures in
+    let part = part_written child_of asked c.groups.into c.make_group.new.into from count count
+    (omega arith) (omega arith) (omega arith) c.groups.invariant c.make_group.ensures in
     rw next part
 
 pub returns : goal.returns
