@@ -31,19 +31,21 @@ fn tally(table: &[u16], start: u32) -> Tallies
         (slice_index table.now t ≡ unseen) ⊎ (slice_index table.now t < MOST_VERTICES) }
     ensures { result ≡ value_of (shown table.now) start (length table.now) }
 {
-    let mut reached: u64 = 0;
-    let mut sum: u64 = 0;
-    let mut greatest: u64 = 0;
-    for (vertex, steps) in table.iter().enumerate() {
-        if *steps != UNSEEN {
-            if vertex != start as usize {
-                reached += 1;
-            }
-            sum += u64::from(*steps);
-            greatest = greatest.max(u64::from(*steps));
-        }
+    // Numbers of 32 and 16 bits and no branch, so that vectors take eight vertices at a time.
+    let mut reached: u32 = 0;
+    let mut sum: u32 = 0;
+    let mut greatest: u16 = 0;
+    for (vertex, found) in table.iter().enumerate() {
+        let is_reached = *found != UNSEEN;
+        let steps = if is_reached { *found } else { 0 };
+        reached += u32::from(is_reached & (vertex as u32 != start));
+        sum += u32::from(steps);
+        greatest = greatest.max(steps);
     }
-    Both(SatSum(reached), Both(SatSum(sum), Greatest(greatest)))
+    Both(
+        SatSum(u64::from(reached)),
+        Both(SatSum(u64::from(sum)), Greatest(u64::from(greatest))),
+    )
 }
 
 /// The value of a vertex.

@@ -1,34 +1,39 @@
-use Rattle.std.proofs.Common.{◌+◌, arith, max, ap, ◌∙◌, refl, eq-eqb}
+use Rattle.std.proofs.Common.{◌≡◌, ◌+◌, ◌≤◌, max, Bool, true, false, not, cond, nat_eq, refl, ap, ◌∙◌, arith, eq-eqb, add-zero}
 use Rattle.std.proofs.lemmas.Bool.{ne_eqb}
-use Rattle.glb_graph.proofs.ValueFacts.{tally_none, tally_took, tally_skipped, tally_value}
-use Rattle.glb_graph.proofs.ValueFacts.{not_mark}
+use Rattle.glb_graph.proofs.ValueFacts.{tally_took, tally_skipped, not_mark}
 use Rattle.glb_graph.proofs.dist.tally.Goals as goal
-use Rattle.glb_graph.proofs.dist.tally.Goals.{then-steps, then-vertex-start, else-vertex-start}
-use Rattle.glb_graph.proofs.dist.tally.Goals.{else-steps}
+use Rattle.glb_graph.proofs.dist.tally.Goals.{then-is_reached, else-is_reached}
+use mir.Val.{bool_byte}
 
-pub loop-vertex-init : goal.loop-vertex-init
-loop-vertex-init c = tally_none _ _
+byte_of-not : (b : Bool) → bool_byte (not b) ≡ cond b 0 1
+byte_of-not true = refl
+byte_of-not false = refl
+
+one_at_most : (b : Bool) → cond b 0 1 ≤ 1
+one_at_most true = omega arith
+one_at_most false = omega arith
 
 pub loop-vertex-preserved : goal.loop-vertex-preserved
-loop-vertex-preserved c = elim c.if-steps.branch [
-  | then-steps w ↦
-      let small = not_mark _ (c.requires.small c.loop-vertex.vertex (omega arith))
-      w.if-steps.true in
-      let most = w.greatest-is ∙ w.max-greatest.ensures
-      ∙ ap (max c.loop-vertex.greatest) w.from.ensures in
-      let sum = w.sum-is ∙ ap (λ n. c.loop-vertex.sum + n) w.from-sum.ensures in
-      elim w.if-vertex-start.branch [
-        | then-vertex-start w' ↦ tally_took _ _ _ _ _ _ _ 1 _ _ _ c.loop-vertex.invariant refl
-            w.if-steps.true small (rw (ne_eqb _ _ w'.if-vertex-start.true)) (omega arith)
-            (w.reached-is ∙ w'.reached-is) sum most
-        | else-vertex-start w' ↦ tally_took _ _ _ _ _ _ _ 0 _ _ _ c.loop-vertex.invariant refl
-            w.if-steps.true small (rw (eq-eqb _ _ w'.if-vertex-start.false)) (omega arith)
-            (omega (arith, w.reached-is, w'.reached-is)) sum most
-      ]
-  | else-steps w ↦ tally_skipped _ _ _ _ _ _ _ _ _ c.loop-vertex.invariant w.if-steps.false
-      w.reached-is
-      w.sum-is w.greatest-is
-]
-
-pub returns : goal.returns
-returns c = tally_value _ _ _ _ _ _ _ c.loop-vertex.invariant (omega arith) c.requires.few
+loop-vertex-preserved c =
+    let vertex = c.loop-vertex.vertex in
+    let start = c.args.start in
+    elim c.if-is_reached.branch [
+      | then-is_reached w ↦
+          let small = not_mark _ (c.requires.small vertex (omega arith)) w.if-is_reached.true in
+          let more : c.from-reached.result ≡ cond (nat_eq vertex start) 0 1 =
+          c.from-reached.ensures ∙ rw (ne_eqb _ _ w.if-is_reached.true)
+          (byte_of-not (nat_eq vertex start)) in
+          tally_took _ _ _ _ _ _ _ (cond (nat_eq vertex start) 0 1) _ _ _ c.loop-vertex.invariant
+          refl
+          w.if-is_reached.true small refl (one_at_most (nat_eq vertex start))
+          (ap (λ n. c.loop-vertex.reached + n) more)
+          (ap (λ n. c.loop-vertex.sum + n) (c.from-sum.ensures ∙ w.steps-is))
+          (c.max-greatest.ensures ∙ ap (max c.loop-vertex.greatest) w.steps-is)
+      | else-is_reached w ↦
+          let none : c.from-reached.result ≡ 0 =
+          c.from-reached.ensures ∙ rw (eq-eqb _ _ w.if-is_reached.false) refl in
+          tally_skipped _ _ _ _ _ _ _ _ _ c.loop-vertex.invariant w.if-is_reached.false
+          (ap (λ n. c.loop-vertex.reached + n) none ∙ add-zero _)
+          (ap (λ n. c.loop-vertex.sum + n) (c.from-sum.ensures ∙ w.steps-is) ∙ add-zero _)
+          (omega (arith, c.max-greatest.ensures, w.steps-is))
+    ]
